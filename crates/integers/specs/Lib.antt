@@ -1,0 +1,6 @@
+pub mod Within
+pub mod Floor
+pub mod Round
+pub mod Ratio
+pub mod Constants
+pub mod Examples

@@ -1,0 +1,88 @@
+// Division that rounds down, and the rounding rule, on 64-bit integers: numerators within 2⁶², denominators from 1 to 2³⁷.
+pub mod theorems;
+
+ghost use mathlib.Core.Path.{_≡_};
+ghost use Prim.Native.Nat.{_^_};
+ghost use lib.IntN.{pos, natAbs, _+ℤ_, _*ℤ_};
+ghost use lib.Signed.{_≤ℤ_, _<ℤ_};
+ghost use Rattle.integers.specs.Within.{_within_};
+ghost use Rattle.integers.specs.Floor.{floorDiv};
+ghost use Rattle.integers.specs.Round.{round};
+ghost use Rattle.integers.specs.Ratio.{Denominates, Ratio};
+ghost use Rattle.integers.specs.Constants.{constants, Prepared, InReach};
+
+// n / d rounded down.
+pub fn floor_div(n: i64, d: i64) -> i64
+    requires { ⌜ Ratio n d ⌝ }
+    ensures { λ r. ⌜ r ≡ floorDiv n (natAbs d) ⌝ }
+{
+    if n < 0 { -1 - (-1 - n) / d } else { n / d }
+}
+
+// n / d rounded by the rule.
+pub fn round(n: i64, d: i64) -> i64
+    requires { ⌜ Ratio n d ⌝ }
+    ensures { λ r. ⌜ r ≡ round n (natAbs d) ⌝ }
+{
+    let q = floor_div(n, d);
+    nearest(q, n - q * d, d)
+}
+
+// A denominator d with the constants for rounding many numerators over it: n / d is about n · scale · inverse / 2⁶⁴.
+pub struct Denominator {
+    pub value: i64,
+    pub scale: i64,
+    pub inverse: i64,
+}
+
+impl Denominator {
+    pub fn new(d: i64) -> Denominator
+        requires { ⌜ Denominates d ⌝ }
+        ensures { λ r. ⌜ r ≡ constants d ⌝ }
+    {
+        let scale = 137438953472 / d;
+        let raised = d * scale;
+        Denominator {
+            value: d,
+            scale: scale,
+            inverse: 4611686018427387904 / (raised / 4),
+        }
+    }
+
+    // n / d rounded by the rule.
+    pub fn round(self, n: i64) -> i64
+        requires { ⌜ Prepared self × (n within (2 ^ 62)) ⌝ }
+        ensures { λ r. ⌜ r ≡ round n (natAbs (self .value)) ⌝ }
+    {
+        let d = self.value;
+        let reach = 16777216 * d;
+        if -reach <= n && n <= reach {
+            self.round_small(n)
+        } else {
+            round(n, d)
+        }
+    }
+
+    // The same for quotients within 2²⁴: a guess that is nearly always right, and the division where it is not.
+    pub fn round_small(self, n: i64) -> i64
+        requires { ⌜ InReach n self ⌝ }
+        ensures { λ r. ⌜ r ≡ round n (natAbs (self .value)) ⌝ }
+    {
+        let d = self.value;
+        let q = (((n * self.scale) >> 27) * self.inverse) >> 37;
+        let rest = n - q * d;
+        if 0 <= rest && rest < d {
+            nearest(q, rest, d)
+        } else {
+            round(n, d)
+        }
+    }
+}
+
+// q + rest / d rounded by the rule, for a rest from 0 to below d.
+fn nearest(q: i64, rest: i64, d: i64) -> i64
+    requires { ⌜ (q within (2 ^ 62)) × Denominates d × (pos 0 ≤ℤ rest) × (rest <ℤ d) ⌝ }
+    ensures { λ r. ⌜ r ≡ round (q *ℤ d +ℤ rest) (natAbs d) ⌝ }
+{
+    if 2 * rest < d { q } else { q + 1 }
+}

@@ -1,0 +1,22 @@
+// Theorems that belong to no function. Each is the contract of one that returns 0, so that the gate asks for its proof.
+ghost use Rattle.integers.specs.Floor.{FloorLaws};
+ghost use Rattle.integers.specs.Round.{RoundingLaws};
+ghost use Rattle.integers.specs.Examples.{Quarters, Means, EightSquares};
+
+pub fn floor_laws() -> u64
+    ensures { λ _. ⌜ FloorLaws ⌝ }
+{
+    0
+}
+
+pub fn rounding_laws() -> u64
+    ensures { λ _. ⌜ RoundingLaws ⌝ }
+{
+    0
+}
+
+pub fn examples() -> u64
+    ensures { λ _. ⌜ Quarters × Means × EightSquares ⌝ }
+{
+    0
+}
