@@ -79,20 +79,30 @@ rebound e {N} h = record { read = e .read; number = e .number; bound = N; reads 
 
 -- ---- operations
 
+-- an operation on two operands, and a bound of its result
+abbrev pub operate : (f : ℤ → ℤ → ℤ) (x y : Operand) {N : ℕ} → f (x .number) (y .number) within N → Operand
+operate f x y {N} h = record {
+  read = f (x .read) (y .read);
+  number = f (x .number) (y .number);
+  bound = N;
+  reads = (λ i. f (x .reads i) (y .reads i));
+  bounded = h;
+}
+
 infixl 60 _⊞_ _⊟_
 infixl 70 _⊠_ _⊘_
 abbrev pub _⊞_ : Operand → Operand → Operand
-x ⊞ y = record { read = x .read +ℤ y .read; number = x .number +ℤ y .number; bound = x .bound + y .bound; reads = (λ i. x .reads i +ℤ y .reads i); bounded = within-+ (x .bounded) (y .bounded) }
+x ⊞ y = operate _+ℤ_ x y (within-+ (x .bounded) (y .bounded))
 
 abbrev pub _⊟_ : Operand → Operand → Operand
-x ⊟ y = record { read = x .read -ℤ y .read; number = x .number -ℤ y .number; bound = x .bound + y .bound; reads = (λ i. x .reads i -ℤ y .reads i); bounded = within-- (x .bounded) (y .bounded) }
+x ⊟ y = operate _-ℤ_ x y (within-- (x .bounded) (y .bounded))
 
 abbrev pub _⊠_ : Operand → Operand → Operand
-x ⊠ y = record { read = x .read *ℤ y .read; number = x .number *ℤ y .number; bound = x .bound * y .bound; reads = (λ i. x .reads i *ℤ y .reads i); bounded = within-* (x .bounded) (y .bounded) }
+x ⊠ y = operate _*ℤ_ x y (within-* (x .bounded) (y .bounded))
 
 -- rounded toward zero
 abbrev pub _⊘_ : Operand → Operand → Operand
-x ⊘ y = record { read = quotZ (x .read) (y .read); number = quotZ (x .number) (y .number); bound = x .bound; reads = (λ i. quotZ (x .reads i) (y .reads i)); bounded = within-quot (y .number) (x .bounded) }
+x ⊘ y = operate quotZ x y (within-quot (y .number) (x .bounded))
 
 -- x >> k, where m is 2 ^ k: rounded down
 abbrev pub shifted : Operand → (m : ℕ) → T (ltb 0 m) → Operand
