@@ -3,7 +3,7 @@
 -- `gives w64 (x ⊠ y) tt` that it is the product of the numbers, `less x y t` what a test that passed says. Assumes nothing.
 use mathlib.Core.Path.{_≡_, refl, sym, _∙_, subst, subst⁻¹}
 use mathlib.Core.Bool.{Bool, true, false, not}
-use Prim.Native.Nat.{ℕ, _+_, _*_, _/_, _^_, _≤_, _<_}
+use Prim.Native.Nat.{ℕ, _+_, _/_, _^_, _≤_, _<_}
 use native.Mathlib.Nat.{lt-of-le-of-lt, le-trans}
 use native.Mathlib.Omega.{arith}
 use lib.Dec.{T, ltb, lit<, ltb→lt}
