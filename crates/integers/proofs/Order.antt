@@ -7,7 +7,7 @@ use Prim.Native.Nat.{ℕ, zero, suc, _+_, _*_, _-_, _≤_, _<_}
 use native.Mathlib.Nat.{le-antisymm}
 use native.Mathlib.Omega.{arith}
 use lib.Dec.{T, ltb, leb→le, le→leb, ltb→lt, lt→ltb, nltb→le, nleb→lt}
-use lib.IntN.{ℤ, pos, negsuc, natAbs, subℕ, _+ℤ_, _-ℤ_, _*ℤ_, +ℤ-idl, +ℤ-idr, +ℤ-assoc}
+use lib.IntN.{ℤ, pos, negsuc, natAbs, subℕ, _+ℤ_, _-ℤ_, _*ℤ_, +ℤ-idl, +ℤ-assoc}
 use lib.Signed.{_≤ℤ_, _<ℤ_, leZ, ltZ, leZ-yes, ltZ-yes, ≤ℤ-refl, <ℤ-≤ℤ-trans, clashℤ}
 use Rattle.integers.proofs.Polynomial.{#_, _⊕_, _⊗_, _⊝_}
 use Rattle.integers.proofs.Solve.{_≐_, solve}
@@ -26,10 +26,6 @@ subℕ-pos a b c e = subℕ-ind a b (λ z. z ≡ pos c) (λ h. absurd (omega ari
 
 pub subℕ-neg : (a b c : ℕ) → a + suc c ≡ b → subℕ a b ≡ negsuc c
 subℕ-neg a b c e = subℕ-ind a b (λ z. z ≡ negsuc c) (λ h. ap negsuc (omega arith)) (λ h. absurd (omega arith))
-
-pub pos-minus : (a b : ℕ) → pos a -ℤ pos b ≡ subℕ a b
-pos-minus a zero = +ℤ-idr (pos a) ∙ sym (subℕ-pos a zero a (omega arith))
-pos-minus a (suc b) = refl
 
 -- −1 − (−1 − a)
 pub reflected : (a : ℕ) → negsuc 0 -ℤ negsuc a ≡ pos a

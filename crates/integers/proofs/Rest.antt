@@ -1,5 +1,5 @@
 -- What division that rounds down leaves, n − q d, for a denominator that is an integer above 0: as the code has it. Assumes nothing.
-use mathlib.Core.Path.{_≡_, ap, subst}
+use mathlib.Core.Path.{_≡_, _∙_, ap, subst}
 use mathlib.Core.List.{[], _∷_}
 use Prim.Native.Nat.{ℕ, _+_, _/_, suc-le-suc}
 use native.Mathlib.Nat.{div-le-self, le-trans}
@@ -13,6 +13,7 @@ use Rattle.integers.proofs.Solve.{_≐_, _≺_, solve}
 use Rattle.integers.proofs.Order.{nonneg-difference, <ℤ→<}
 use Rattle.integers.proofs.Deduce.{_·_, _⊨_, deduce}
 use Rattle.integers.proofs.Bounds.{is-within, within--, within-below}
+use Rattle.integers.proofs.Operand.{Operand}
 use Rattle.integers.proofs.Floors.{floor-laws}
 
 pub floor-within : {n : ℤ} {N : ℕ} (d : ℕ) → n within N → floorDiv n d within N
@@ -38,6 +39,8 @@ multiple-within {n} {d} {N} {D} p h k = subst (λ z. z within (N + D))
     (solve 2 (λ n m. n ⊝ (n ⊝ m) ≐ m) tt n (floorDiv n (natAbs d) *ℤ d))
     (within-- h (rest-within n p k))
 
--- whatever q is, q d and the rest are n again
-pub reassembled : (n q d : ℤ) → round (q *ℤ d +ℤ (n -ℤ q *ℤ d)) (natAbs d) ≡ round n (natAbs d)
-reassembled n q d = ap (λ z. round z (natAbs d)) (solve 3 (λ n q d. q ⊗ d ⊕ (n ⊝ q ⊗ d) ≐ n) tt n q d)
+-- what `nearest` returns, x, is n over d rounded, whatever q is: q d and the rest are n again
+pub rounded : (n : ℤ) (q d : Operand) {x rest : ℤ} → rest ≡ n -ℤ q .number *ℤ d .number
+    → x ≡ round (q .read *ℤ d .read +ℤ rest) (natAbs (d .read)) → x ≡ round n (natAbs (d .number))
+rounded n q d p e = e ∙ (λ i. round (q .reads i *ℤ d .reads i +ℤ p i) (natAbs (d .reads i)))
+    ∙ ap (λ z. round z (natAbs (d .number))) (solve 3 (λ n q d. q ⊗ d ⊕ (n ⊝ q ⊗ d) ≐ n) tt n (q .number) (d .number))

@@ -10,7 +10,7 @@ use Rattle.integers.specs.Floor.{floorDiv}
 unfoldable pub round : ℤ → ℕ → ℤ
 round n d = floorDiv (pos 2 *ℤ n +ℤ pos d) (2 * d)
 
--- What others may use of the rule. All but `tie` hold of every rounding to the nearest.
+-- What others may use of the rule. All but `tie` hold of every rounding of the value n/d to the nearest.
 pub record RoundingLaws : Type 0 where
   -- | round − n/d | ≤ 1/2
   pub half-unit : (n : ℤ) (d : ℕ) → 0 < d → (pos 2 *ℤ (round n d *ℤ pos d -ℤ n)) within d

@@ -1,11 +1,10 @@
 -- `integers::round` meets its contract: floor division leaves 0 ≤ n − q d < d, and `nearest` decides from there. Assumes nothing.
 use mathlib.Core.Path.{_∙_}
-use lib.IntN.{natAbs, _+ℤ_, _*ℤ_}
+use lib.IntN.{natAbs}
 use borrow.Author.Needs.{needs}
 use mir.Syntax.{w64}
 use Rattle.integers.specs.Floor.{floorDiv}
-use Rattle.integers.specs.Round as rule
-use Rattle.integers.proofs.Rest.{floor-within, multiple-within, rest-low, rest-high, rest-within, reassembled}
+use Rattle.integers.proofs.Rest.{floor-within, multiple-within, rest-low, rest-high, rest-within, rounded}
 use Rattle.integers.proofs.Operand.{Operand, known, stored, returned, rebound, _⊟_, _⊠_, asks, gives, unchanged}
 use Rattle.integers.proofs.round.Statement.{statement}
 use Rattle.integers.proofs.round.Tie as tie
@@ -44,9 +43,7 @@ nearest-requires c κs = let s = c .before in
 
 returns : tie.Need-returns
 returns c = let f = c .before in let s = f .before in
-    unchanged w64 (c .nearest .ok) ∙ c .nearest .ensures
-    ∙ (λ i. rule.round (q f .reads i *ℤ d s .reads i +ℤ gives w64 (rest f) tt i) (natAbs (d s .reads i)))
-    ∙ reassembled (s .args .n) (q f .number) (s .args .d)
+    unchanged w64 (c .nearest .ok) ∙ rounded (s .args .n) (q f) (d s) (gives w64 (rest f) tt) (c .nearest .ensures)
 
 pub round-spec : {M : Type 1} → statement M
 round-spec =

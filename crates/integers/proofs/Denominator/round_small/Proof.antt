@@ -3,11 +3,11 @@
 use mathlib.Core.Path.{_∙_}
 use Prim.Native.Nat.{_^_}
 use lib.Dec.{lit≤}
-use lib.IntN.{pos, natAbs, _+ℤ_, _*ℤ_}
+use lib.IntN.{pos, natAbs}
 use mir.Syntax.{w64}
 use Rattle.integers.specs.Round as rule
 use Rattle.integers.proofs.Bounds.{within-mono}
-use Rattle.integers.proofs.Rest.{reassembled}
+use Rattle.integers.proofs.Rest.{rounded}
 use Rattle.integers.proofs.Prepared.{numerator-within}
 use Rattle.integers.proofs.Constants.{scale-within, inverse-within, product-within}
 use Rattle.integers.proofs.Operand.{Operand, literal, known, stored, rebound, shifted, _⊟_, _⊠_, asks, gives, unchanged, less, at-most}
@@ -64,9 +64,7 @@ round-requires c κs = let s = entry (c .before) in
 
 returns : tie.Need-returns
 returns c = let f = c .before in let s = entry (f .before .before) in
-    unchanged w64 (c .nearest .ok) ∙ c .nearest .ensures
-    ∙ (λ i. rule.round (q s .reads i *ℤ d s .reads i +ℤ gives w64 (rest s) tt i) (natAbs (d s .reads i)))
-    ∙ reassembled (s .args .n) (q s .number) (s .args .self .value)
+    unchanged w64 (c .nearest .ok) ∙ rounded (s .args .n) (q s) (d s) (gives w64 (rest s) tt) (c .nearest .ensures)
 
 returns-2 : tie.Need-returns-2
 returns-2 c = let s = entry (c .before .before) in
