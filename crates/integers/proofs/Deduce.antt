@@ -121,7 +121,7 @@ given : (ρ : List ℤ) (us : List Used) {G H : Type 0} → (G → H) → Given 
 given ρ [] f g = f g
 given ρ (u ∷ us) f g = λ h. given ρ us f (g h)
 
-certified-sound : (us : List Used) (c : Claim) → T (certified us c) → (ρ : List ℤ) → Given ρ us (Holds c ρ)
+pub certified-sound : (us : List Used) (c : Claim) → T (certified us c) → (ρ : List ℤ) → Given ρ us (Holds c ρ)
 certified-sound us (a ≐ b) t ρ = equation-sound ρ a b (# zero) us refl t
 certified-sound us (a ≼ b) t ρ = inequality-sound ρ a b (# zero) us (≤ℤ-refl (pos zero)) t
 certified-sound us (a ≺ b) t ρ = given ρ us suc≤ℤ→<ℤ (inequality-sound ρ (a ⊕ # 1) b (# zero) us (≤ℤ-refl (pos zero)) t)

@@ -1,0 +1,103 @@
+-- On an edge the height is the Hermite cubic of the two nodes, the slope along the edge its derivative, and the slope across it a straight line
+-- between theirs. So two cells that share an edge agree along it. Assumes nothing.
+use mathlib.Core.Path.{_≡_, refl, sym, subst, ap₂}
+use Prim.Native.Nat.{ℕ, _<_}
+use lib.IntN.{ℤ, pos, negℤ, _+ℤ_, _*ℤ_}
+use Rattle.sibson.specs.Fraction.{Positive, ℚ, _≈_, _+ℚ_, _-ℚ_, _*ℚ_, _·ℚ_, _÷_, whole, complement}
+use Rattle.sibson.specs.Cubic.{Cell, Point, value, byR, byS, Jet, jet, _≋_}
+use Rattle.sibson.specs.Piece.{Piece, top, right, bottom, left, edge, Corner, leftTop, rightTop, leftBottom, rightBottom}
+use Rattle.sibson.specs.Element.{Corners, cornerNumbers, inOrder, column, weights, weighed, halved, transposed, flipped, mirrored, swap, negateX, negateY, exchanged, topDown, leftRight, onTop, onLeft, sibson, surface}
+use Rattle.sibson.specs.Theorems.{lengthOf, first, last, SharedEdge, AgreeAlong, Edges}
+use Rattle.integers.proofs.Polynomial.{Expr, #_, _⊕_, _⊗_, _⊝_, ⊖_}
+use Rattle.sibson.proofs.Jets.{≋-refl, ≋-sym, ≋-trans}
+use Rattle.sibson.proofs.Quote.{Quotient, wholeₑ, _+ₑ_, _-ₑ_, _*ₑ_, _·ₑ_, _÷ₑ_, Cubicₑ, Jetₑ, jetₑ, decided, jets}
+use Rattle.sibson.proofs.QuoteElement.{Cornerₑ, Cornersₑ, sibsonₑ, numbersₑ, Wₑ, Hₑ, tₑ, given}
+
+-- along an edge of length L from node a to node b, the slope along it first
+unfoldable pub along : Positive → Jet ℤ → Jet ℤ → ℚ → Jet ℚ
+along L a b t = let l = pos (L .number) in let u = complement t in record {
+  height = a .height ·ℚ (u *ℚ u *ℚ (u +ℚ pos 3 ·ℚ t)) +ℚ (l *ℤ a .xSlope) ·ℚ (t *ℚ u *ℚ u)
+      +ℚ b .height ·ℚ (t *ℚ t *ℚ (t +ℚ pos 3 ·ℚ u)) +ℚ negℤ (l *ℤ b .xSlope) ·ℚ (t *ℚ t *ℚ u);
+  xSlope = ((b .height +ℤ negℤ (a .height)) ·ℚ (pos 6 ·ℚ (t *ℚ u))) ÷ L +ℚ a .xSlope ·ℚ (u *ℚ (u -ℚ pos 2 ·ℚ t)) +ℚ b .xSlope ·ℚ (t *ℚ (t -ℚ pos 2 ·ℚ u));
+  ySlope = a .ySlope ·ℚ u +ℚ b .ySlope ·ℚ t;
+}
+
+-- x and y exchanged
+unfoldable pub turned : Jet ℚ → Jet ℚ
+turned j = record { height = j .height; xSlope = j .ySlope; ySlope = j .xSlope }
+
+unfoldable pub onEdge : Piece → Positive → Jet ℤ → Jet ℤ → ℚ → Jet ℚ
+onEdge top L a b t = along L a b t
+onEdge right L a b t = turned (along L (swap a) (swap b) t)
+onEdge bottom L a b t = along L a b t
+onEdge left L a b t = turned (along L (swap a) (swap b) t)
+
+-- ---- the same, quoted
+
+abbrev alongₑ : Expr → Cornerₑ → Cornerₑ → Quotient → Jetₑ
+alongₑ l a b t = let u = wholeₑ (# 1) -ₑ t in record {
+  height = a .height ·ₑ (u *ₑ u *ₑ (u +ₑ # 3 ·ₑ t)) +ₑ (l ⊗ a .xSlope) ·ₑ (t *ₑ u *ₑ u)
+      +ₑ b .height ·ₑ (t *ₑ t *ₑ (t +ₑ # 3 ·ₑ u)) +ₑ ⊖ (l ⊗ b .xSlope) ·ₑ (t *ₑ t *ₑ u);
+  xSlope = ((b .height ⊕ ⊖ (a .height)) ·ₑ (# 6 ·ₑ (t *ₑ u))) ÷ₑ l +ₑ a .xSlope ·ₑ (u *ₑ (u -ₑ # 2 ·ₑ t)) +ₑ b .xSlope ·ₑ (t *ₑ (t -ₑ # 2 ·ₑ u));
+  ySlope = a .ySlope ·ₑ u +ₑ b .ySlope ·ₑ t;
+}
+
+abbrev swapₑ : Cornerₑ → Cornerₑ
+swapₑ c = record { height = c .height; xSlope = c .ySlope; ySlope = c .xSlope }
+
+abbrev downₑ : Cornerₑ → Cornerₑ → Jetₑ
+downₑ a b = let j = alongₑ Hₑ (swapₑ a) (swapₑ b) tₑ in record { height = j .height; xSlope = j .ySlope; ySlope = j .xSlope }
+
+abbrev nodesₑ : Cornersₑ
+nodesₑ c = record { height = numbersₑ c .height; xSlope = Wₑ ⊗ numbersₑ c .xSlope; ySlope = Hₑ ⊗ numbersₑ c .ySlope }
+
+abbrev edgeₑ : Piece → Jetₑ
+edgeₑ top = jetₑ Wₑ Hₑ (sibsonₑ nodesₑ top) tₑ (wholeₑ (# 0))
+edgeₑ right = jetₑ Wₑ Hₑ (sibsonₑ nodesₑ right) (wholeₑ (# 1)) tₑ
+edgeₑ bottom = jetₑ Wₑ Hₑ (sibsonₑ nodesₑ bottom) tₑ (wholeₑ (# 1))
+edgeₑ left = jetₑ Wₑ Hₑ (sibsonₑ nodesₑ left) (wholeₑ (# 0)) tₑ
+
+on-edge : (C : Cell) (m : Corners) (k : Piece) (t : ℚ) → jet C (surface C m k) (edge k t) ≋ onEdge k (lengthOf C k) (m (first k)) (m (last k)) t
+unfolding jet value byR byS inOrder column weights weighed halved transposed flipped mirrored swap negateX negateY exchanged topDown leftRight onTop onLeft sibson surface cornerNumbers onEdge along turned
+on-edge C m top t = jets (decided (edgeₑ top) (alongₑ Wₑ (numbersₑ leftTop) (numbersₑ rightTop) tₑ) tt (given C t m))
+on-edge C m right t = jets (decided (edgeₑ right) (downₑ (numbersₑ rightTop) (numbersₑ rightBottom)) tt (given C t m))
+on-edge C m bottom t = jets (decided (edgeₑ bottom) (alongₑ Wₑ (numbersₑ leftBottom) (numbersₑ rightBottom) tₑ) tt (given C t m))
+on-edge C m left t = jets (decided (edgeₑ left) (downₑ (numbersₑ leftTop) (numbersₑ leftBottom)) tt (given C t m))
+
+-- ---- two cells
+
+-- only the length's number counts
+again : (k : Piece) (L : Positive) (a b : Jet ℤ) (t : ℚ) (p : 0 < L .number) → onEdge k L a b t ≋ onEdge k (record { number = L .number; above = p }) a b t
+unfolding onEdge along turned
+again top L a b t p = jets (refl, refl, refl)
+again right L a b t p = jets (refl, refl, refl)
+again bottom L a b t p = jets (refl, refl, refl)
+again left L a b t p = jets (refl, refl, refl)
+
+same-length : (k : Piece) (L L′ : Positive) (a b : Jet ℤ) (t : ℚ) → L .number ≡ L′ .number → onEdge k L a b t ≋ onEdge k L′ a b t
+same-length k L L′ a b t e =
+    subst (λ (l : ℕ). (p : 0 < l) → onEdge k L a b t ≋ onEdge k (record { number = l; above = p }) a b t) e (λ p. again k L a b t p) (L′ .above)
+
+-- the same piece, or two pieces whose edges run alike
+agree-along : (k l : Piece) → ((L : Positive) (a b : Jet ℤ) (t : ℚ) → onEdge k L a b t ≡ onEdge l L a b t) → AgreeAlong k l
+unfolding AgreeAlong
+agree-along k l alike C D m n e t =
+    ≋-trans {j = jet C (surface C m k) (edge k t)} {k = here (m (first k)) (m (last k)) (lengthOf C k)} {l = jet D (surface D n l) (edge l t)} (on-edge C m k t)
+    (subst (λ j. j ≋ jet D (surface D n l) (edge l t)) nodes
+    (≋-trans {j = here (n (first l)) (n (last l)) (lengthOf C k)} {k = here (n (first l)) (n (last l)) (lengthOf D l)} {l = jet D (surface D n l) (edge l t)}
+    (same-length k (lengthOf C k) (lengthOf D l) (n (first l)) (n (last l)) t (e .lengths))
+    (subst (λ j. j ≋ jet D (surface D n l) (edge l t)) (sym (alike (lengthOf D l) (n (first l)) (n (last l)) t)) (≋-sym (on-edge D n l t)))))
+  where
+    here : Jet ℤ → Jet ℤ → Positive → Jet ℚ
+    here a b L = onEdge k L a b t
+
+    nodes : here (n (first l)) (n (last l)) (lengthOf C k) ≡ here (m (first k)) (m (last k)) (lengthOf C k)
+    nodes = ap₂ (λ a b. onEdge k (lengthOf C k) a b t) (sym (e .firsts)) (sym (e .lasts))
+
+pub edges : Edges
+unfolding onEdge
+edges = record {
+  sideBySide = agree-along right left (λ L a b t. refl);
+  oneAboveTheOther = agree-along bottom top (λ L a b t. refl);
+  ownNodes = λ k. agree-along k k (λ L a b t. refl);
+}

@@ -1,0 +1,163 @@
+-- The difference of two cubics: its heights and slopes are the differences, and it is 0 exactly when the two are equal. Assumes nothing.
+use mathlib.Core.Path.{_≡_, refl, sym, _∙_, subst}
+use mathlib.Core.List.{[], _∷_}
+use lib.IntN.{ℤ, pos, _+ℤ_, _-ℤ_, _*ℤ_}
+use Rattle.sibson.specs.Fraction.{Positive, ℚ, _≈_, _-ℚ_, _*⁺_, _÷_, whole}
+use Rattle.sibson.specs.Cubic.{Cell, Point, Cubic, Power, one, r¹, s¹, r², rs, s², r³, r²s, rs², s³, coefficient, _≅_, value, byR, byS, jet, _≋_}
+use Rattle.sibson.specs.Piece.{Piece, top, right, bottom, left}
+use Rattle.sibson.specs.Conditions.{squareTerm, squareInR, squareInS}
+use Rattle.integers.proofs.Polynomial.{var, #_, _⊗_, _⊝_, ⊖_}
+use Rattle.integers.proofs.Solve.{_≐_}
+use Rattle.integers.proofs.Deduce.{_·_, _⊨_, deduce, certified-sound}
+use Rattle.sibson.proofs.Fractions.{≈-refl}
+use Rattle.sibson.proofs.Jets.{_⊟_, none}
+use Rattle.sibson.proofs.Quote.{Cubicₑ, wholeₑ, _-ₑ_, _÷ₑ_, valueₑ, byRₑ, bySₑ, squareₑ, equal, Jetₑ, jetₑ, decided, jets, cubicₑ, fractionₑ, cubic, fraction}
+use Rattle.sibson.proofs.Rotation.{Zero}
+
+unfoldable pub difference : Cubic → Cubic → Cubic
+difference f g = let d = pos (f .divisor .number) in let d′ = pos (g .divisor .number) in record {
+  c00 = f .c00 *ℤ d′ -ℤ g .c00 *ℤ d;
+  c10 = f .c10 *ℤ d′ -ℤ g .c10 *ℤ d;
+  c01 = f .c01 *ℤ d′ -ℤ g .c01 *ℤ d;
+  c20 = f .c20 *ℤ d′ -ℤ g .c20 *ℤ d;
+  c11 = f .c11 *ℤ d′ -ℤ g .c11 *ℤ d;
+  c02 = f .c02 *ℤ d′ -ℤ g .c02 *ℤ d;
+  c30 = f .c30 *ℤ d′ -ℤ g .c30 *ℤ d;
+  c21 = f .c21 *ℤ d′ -ℤ g .c21 *ℤ d;
+  c12 = f .c12 *ℤ d′ -ℤ g .c12 *ℤ d;
+  c03 = f .c03 *ℤ d′ -ℤ g .c03 *ℤ d;
+  divisor = f .divisor *⁺ g .divisor;
+}
+
+-- ---- quoted: two cubics, then a point
+
+abbrev fₑ : Cubicₑ
+fₑ = cubicₑ 0
+
+abbrev gₑ : Cubicₑ
+gₑ = cubicₑ 11
+
+abbrev differenceₑ : Cubicₑ
+differenceₑ = let d = fₑ .divisor in let d′ = gₑ .divisor in record {
+  c00 = fₑ .c00 ⊗ d′ ⊝ gₑ .c00 ⊗ d;
+  c10 = fₑ .c10 ⊗ d′ ⊝ gₑ .c10 ⊗ d;
+  c01 = fₑ .c01 ⊗ d′ ⊝ gₑ .c01 ⊗ d;
+  c20 = fₑ .c20 ⊗ d′ ⊝ gₑ .c20 ⊗ d;
+  c11 = fₑ .c11 ⊗ d′ ⊝ gₑ .c11 ⊗ d;
+  c02 = fₑ .c02 ⊗ d′ ⊝ gₑ .c02 ⊗ d;
+  c30 = fₑ .c30 ⊗ d′ ⊝ gₑ .c30 ⊗ d;
+  c21 = fₑ .c21 ⊗ d′ ⊝ gₑ .c21 ⊗ d;
+  c12 = fₑ .c12 ⊗ d′ ⊝ gₑ .c12 ⊗ d;
+  c03 = fₑ .c03 ⊗ d′ ⊝ gₑ .c03 ⊗ d;
+  divisor = d ⊗ d′;
+}
+
+-- ---- heights and slopes
+
+value-difference : (f g : Cubic) (P : Point) → value (difference f g) P ≈ value f P -ℚ value g P
+unfolding value difference
+value-difference f g P = record {
+  crossed = equal (valueₑ differenceₑ (fractionₑ 22) (fractionₑ 24)) (valueₑ fₑ (fractionₑ 22) (fractionₑ 24) -ₑ valueₑ gₑ (fractionₑ 22) (fractionₑ 24)) tt
+      (cubic f (cubic g (fraction (P .r) (fraction (P .s) []))));
+}
+
+pub jet-difference : (C : Cell) (f g : Cubic) (P : Point) → jet C (difference f g) P ≋ jet C f P ⊟ jet C g P
+unfolding jet value byR byS difference
+jet-difference C f g P = let ρ = cubic f (cubic g (fraction (P .r) (fraction (P .s) []))) in let r = fractionₑ 22 in let s = fractionₑ 24 in record {
+  heights = value-difference f g P;
+  xSlopes = record {
+    crossed = equal (valueₑ (byRₑ differenceₑ) r s ÷ₑ var 26) (valueₑ (byRₑ fₑ) r s ÷ₑ var 26 -ₑ valueₑ (byRₑ gₑ) r s ÷ₑ var 26) tt
+        (cubic f (cubic g (fraction (P .r) (fraction (P .s) (pos (C .W .number) ∷ [])))));
+  };
+  ySlopes = record {
+    crossed = equal (valueₑ (bySₑ differenceₑ) r s ÷ₑ var 26) (valueₑ (bySₑ fₑ) r s ÷ₑ var 26 -ₑ valueₑ (bySₑ gₑ) r s ÷ₑ var 26) tt
+        (cubic f (cubic g (fraction (P .r) (fraction (P .s) (pos (C .H .number) ∷ [])))));
+  };
+}
+
+-- ---- square terms
+
+pub square-difference : (k : Piece) (f g : Cubic) → squareTerm k f ≡ pos 0 → squareTerm k g ≡ pos 0 → squareTerm k (difference f g) ≡ pos 0
+unfolding squareTerm squareInR squareInS byR byS difference
+square-difference top f g a b = certified-sound ((gₑ .divisor · (squareₑ top fₑ ≐ # 0)) ∷ (⊖ (fₑ .divisor) · (squareₑ top gₑ ≐ # 0)) ∷ []) (squareₑ top differenceₑ ≐ # 0) tt (cubic f (cubic g [])) a b
+square-difference right f g a b = certified-sound ((gₑ .divisor · (squareₑ right fₑ ≐ # 0)) ∷ (⊖ (fₑ .divisor) · (squareₑ right gₑ ≐ # 0)) ∷ []) (squareₑ right differenceₑ ≐ # 0) tt (cubic f (cubic g [])) a b
+square-difference bottom f g a b = certified-sound ((gₑ .divisor · (squareₑ bottom fₑ ≐ # 0)) ∷ (⊖ (fₑ .divisor) · (squareₑ bottom gₑ ≐ # 0)) ∷ []) (squareₑ bottom differenceₑ ≐ # 0) tt (cubic f (cubic g [])) a b
+square-difference left f g a b = certified-sound ((gₑ .divisor · (squareₑ left fₑ ≐ # 0)) ∷ (⊖ (fₑ .divisor) · (squareₑ left gₑ ≐ # 0)) ∷ []) (squareₑ left differenceₑ ≐ # 0) tt (cubic f (cubic g [])) a b
+
+-- ---- no difference
+
+coefficient-difference : (f g : Cubic) (p : Power) →
+    coefficient (difference f g) p ≡ coefficient f p *ℤ pos (g .divisor .number) -ℤ coefficient g p *ℤ pos (f .divisor .number)
+unfolding difference
+coefficient-difference f g one = refl
+coefficient-difference f g r¹ = refl
+coefficient-difference f g s¹ = refl
+coefficient-difference f g r² = refl
+coefficient-difference f g rs = refl
+coefficient-difference f g s² = refl
+coefficient-difference f g r³ = refl
+coefficient-difference f g r²s = refl
+coefficient-difference f g rs² = refl
+coefficient-difference f g s³ = refl
+
+pub equal-of-zero : (f g : Cubic) → Zero (difference f g) → f ≅ g
+unfolding Zero
+equal-of-zero f g z = record {
+  coefficients = λ p. record {
+    crossed = deduce 4 (λ a d b e. (# 1 · (a ⊗ e ⊝ b ⊗ d ≐ # 0)) ∷ [] ⊨ a ⊗ (# 1 ⊗ e) ≐ b ⊗ (# 1 ⊗ d)) tt
+        (coefficient f p) (pos (f .divisor .number)) (coefficient g p) (pos (g .divisor .number)) (sym (coefficient-difference f g p) ∙ z p);
+  };
+}
+
+pub zero-of-equal : (f g : Cubic) → f ≅ g → Zero (difference f g)
+unfolding Zero
+zero-of-equal f g e p = coefficient-difference f g p
+    ∙ deduce 4 (λ a d b e. (# 1 · (a ⊗ (# 1 ⊗ e) ≐ b ⊗ (# 1 ⊗ d))) ∷ [] ⊨ a ⊗ e ⊝ b ⊗ d ≐ # 0) tt
+    (coefficient f p) (pos (f .divisor .number)) (coefficient g p) (pos (g .divisor .number)) (e .coefficients p .crossed)
+
+-- ---- a cubic that is 0 has nothing anywhere
+
+abbrev blank : Cubic → Cubic
+blank f = record {
+  c00 = pos 0;
+  c10 = pos 0;
+  c01 = pos 0;
+  c20 = pos 0;
+  c11 = pos 0;
+  c02 = pos 0;
+  c30 = pos 0;
+  c21 = pos 0;
+  c12 = pos 0;
+  c03 = pos 0;
+  divisor = f .divisor;
+}
+
+is-blank : (f : Cubic) → Zero f → f ≡ blank f
+unfolding Zero
+is-blank f z = λ i. record {
+  c00 = z one i;
+  c10 = z r¹ i;
+  c01 = z s¹ i;
+  c20 = z r² i;
+  c11 = z rs i;
+  c02 = z s² i;
+  c30 = z r³ i;
+  c21 = z r²s i;
+  c12 = z rs² i;
+  c03 = z s³ i;
+  divisor = f .divisor;
+}
+
+abbrev blankₑ : Cubicₑ
+blankₑ = record { c00 = # 0; c10 = # 0; c01 = # 0; c20 = # 0; c11 = # 0; c02 = # 0; c30 = # 0; c21 = # 0; c12 = # 0; c03 = # 0; divisor = var 0 }
+
+abbrev pub noneₑ : Jetₑ
+noneₑ = record { height = wholeₑ (# 0); xSlope = wholeₑ (# 0); ySlope = wholeₑ (# 0) }
+
+blank-jet : (C : Cell) (f : Cubic) (P : Point) → jet C (blank f) P ≋ none
+unfolding jet value byR byS none
+blank-jet C f P = jets (decided (jetₑ (var 1) (var 2) blankₑ (fractionₑ 3) (fractionₑ 5)) noneₑ tt
+    (pos (f .divisor .number) ∷ pos (C .W .number) ∷ pos (C .H .number) ∷ fraction (P .r) (fraction (P .s) [])))
+
+pub zero-jet : (C : Cell) (f : Cubic) → Zero f → (P : Point) → jet C f P ≋ none
+zero-jet C f z P = subst (λ g. jet C g P ≋ none) (sym (is-blank f z)) (blank-jet C f P)

@@ -1,0 +1,109 @@
+-- The set we read from meets the conditions and has the corner numbers. Assumes nothing.
+use mathlib.Core.Path.{_≡_}
+use lib.Dec.{T}
+use lib.IntN.{ℤ, pos}
+use Rattle.sibson.specs.Fraction.{ℚ, _≈_, whole, _÷_, complement}
+use Rattle.sibson.specs.Cubic.{Cell, Point, value, byR, byS, jet, _≋_}
+use Rattle.sibson.specs.Piece.{Piece, top, right, bottom, left, next, triangle, HalfDiagonal, Corner, leftTop, rightTop, leftBottom, rightBottom, at}
+use Rattle.sibson.specs.Conditions.{Meets, Smooth, squareTerm, squareInR, squareInS}
+use Rattle.sibson.specs.Element.{Corners, cornerNumbers, inOrder, column, weights, weighed, halved, transposed, flipped, mirrored, swap, negateX, negateY, exchanged, topDown, leftRight, onTop, onLeft, sibson, surface}
+use Rattle.sibson.specs.Theorems.{Has, perPixel, ofNode}
+use Rattle.integers.proofs.Polynomial.{#_, _⊗_}
+use Rattle.integers.proofs.Solve.{same-sound, solve, _≐_}
+use Rattle.sibson.proofs.Fractions.{≈-refl, ≈-sym}
+use Rattle.sibson.proofs.Jets.{_≈ₚ_, jet-at, ≋-sym, ≋-trans}
+use Rattle.sibson.proofs.Quote.{Quotient, wholeₑ, _-ₑ_, _÷ₑ_, Cubicₑ, Jetₑ, jetₑ, squareₑ, decided, jets}
+use Rattle.sibson.proofs.QuoteElement.{sibsonₑ, numbersₑ, Wₑ, Hₑ, tₑ, given}
+
+-- ---- the half diagonals
+
+-- the point of a half diagonal's line with a given s
+abbrev pub onLine : Piece → ℚ → Point
+onLine top s = record { r = complement s; s = s }
+onLine right s = record { r = s; s = s }
+onLine bottom s = record { r = complement s; s = s }
+onLine left s = record { r = s; s = s }
+
+-- a cubic at it
+abbrev pub onLineₑ : Piece → Cubicₑ → Jetₑ
+onLineₑ top f = jetₑ Wₑ Hₑ f (wholeₑ (# 1) -ₑ tₑ) tₑ
+onLineₑ right f = jetₑ Wₑ Hₑ f tₑ tₑ
+onLineₑ bottom f = jetₑ Wₑ Hₑ f (wholeₑ (# 1) -ₑ tₑ) tₑ
+onLineₑ left f = jetₑ Wₑ Hₑ f tₑ tₑ
+
+lines-agree : (C : Cell) (n : Corners) (k : Piece) (s : ℚ) → jet C (sibson n k) (onLine k s) ≋ jet C (sibson n (next k)) (onLine k s)
+unfolding jet value byR byS inOrder column weights weighed halved transposed flipped mirrored swap negateX negateY exchanged topDown leftRight onTop onLeft sibson next
+lines-agree C n top s = jets (decided (onLineₑ top (sibsonₑ numbersₑ top)) (onLineₑ top (sibsonₑ numbersₑ right)) tt (given C s n))
+lines-agree C n right s = jets (decided (onLineₑ right (sibsonₑ numbersₑ right)) (onLineₑ right (sibsonₑ numbersₑ bottom)) tt (given C s n))
+lines-agree C n bottom s = jets (decided (onLineₑ bottom (sibsonₑ numbersₑ bottom)) (onLineₑ bottom (sibsonₑ numbersₑ left)) tt (given C s n))
+lines-agree C n left s = jets (decided (onLineₑ left (sibsonₑ numbersₑ left)) (onLineₑ left (sibsonₑ numbersₑ top)) tt (given C s n))
+
+-- a point of a half diagonal lies on its line
+pub on-line : (k : Piece) (P : Point) → HalfDiagonal k P → P ≈ₚ onLine k (P .s)
+unfolding HalfDiagonal
+on-line top P h = record { rs = h .0; ss = ≈-refl (P .s) }
+on-line right P h = record { rs = h .0; ss = ≈-refl (P .s) }
+on-line bottom P h = record { rs = h .0; ss = ≈-refl (P .s) }
+on-line left P h = record { rs = h .0; ss = ≈-refl (P .s) }
+
+smooth : (C : Cell) (n : Corners) → Smooth C (sibson n)
+unfolding Smooth
+smooth C n k P h = let l = on-line k P h in
+    ≋-trans {j = jet C (sibson n k) P} {k = jet C (sibson n k) (onLine k (P .s))} {l = jet C (sibson n (next k)) P} (jet-at C (sibson n k) l)
+    (≋-trans {j = jet C (sibson n k) (onLine k (P .s))} {k = jet C (sibson n (next k)) (onLine k (P .s))} {l = jet C (sibson n (next k)) P}
+    (lines-agree C n k (P .s)) (≋-sym (jet-at C (sibson n (next k)) l)))
+
+-- ---- the edges
+
+no-square : (C : Cell) (n : Corners) (k : Piece) → squareTerm k (sibson n k) ≡ pos 0
+unfolding squareTerm squareInR squareInS byR byS inOrder column weights weighed halved transposed flipped mirrored swap negateX negateY exchanged topDown leftRight onTop onLeft sibson
+no-square C n top = same-sound (squareₑ top (sibsonₑ numbersₑ top)) (# 0) tt (given C (whole (pos 0)) n)
+no-square C n right = same-sound (squareₑ right (sibsonₑ numbersₑ right)) (# 0) tt (given C (whole (pos 0)) n)
+no-square C n bottom = same-sound (squareₑ bottom (sibsonₑ numbersₑ bottom)) (# 0) tt (given C (whole (pos 0)) n)
+no-square C n left = same-sound (squareₑ left (sibsonₑ numbersₑ left)) (# 0) tt (given C (whole (pos 0)) n)
+
+pub meets : (C : Cell) (n : Corners) → Meets C (sibson n)
+meets C n = record { smooth = smooth C n; linear = no-square C n }
+
+-- ---- the corners
+
+abbrev pub atₑ : Corner → Cubicₑ → Jetₑ
+atₑ leftTop f = jetₑ Wₑ Hₑ f (wholeₑ (# 0)) (wholeₑ (# 0))
+atₑ rightTop f = jetₑ Wₑ Hₑ f (wholeₑ (# 1)) (wholeₑ (# 0))
+atₑ leftBottom f = jetₑ Wₑ Hₑ f (wholeₑ (# 0)) (wholeₑ (# 1))
+atₑ rightBottom f = jetₑ Wₑ Hₑ f (wholeₑ (# 1)) (wholeₑ (# 1))
+
+abbrev numberₑ : Corner → Jetₑ
+numberₑ c = record { height = wholeₑ (numbersₑ c .height); xSlope = wholeₑ (numbersₑ c .xSlope) ÷ₑ Wₑ; ySlope = wholeₑ (numbersₑ c .ySlope) ÷ₑ Hₑ }
+
+pub numbers : (C : Cell) (n : Corners) → Has C (sibson n) (λ c. perPixel C (n c))
+unfolding Has perPixel jet value byR byS inOrder column weights weighed halved transposed flipped mirrored swap negateX negateY exchanged topDown leftRight onTop onLeft sibson
+numbers C n top leftTop t = jets (decided (atₑ leftTop (sibsonₑ numbersₑ top)) (numberₑ leftTop) tt (given C (whole (pos 0)) n))
+numbers C n top rightTop t = jets (decided (atₑ rightTop (sibsonₑ numbersₑ top)) (numberₑ rightTop) tt (given C (whole (pos 0)) n))
+numbers C n right rightTop t = jets (decided (atₑ rightTop (sibsonₑ numbersₑ right)) (numberₑ rightTop) tt (given C (whole (pos 0)) n))
+numbers C n right rightBottom t = jets (decided (atₑ rightBottom (sibsonₑ numbersₑ right)) (numberₑ rightBottom) tt (given C (whole (pos 0)) n))
+numbers C n bottom rightBottom t = jets (decided (atₑ rightBottom (sibsonₑ numbersₑ bottom)) (numberₑ rightBottom) tt (given C (whole (pos 0)) n))
+numbers C n bottom leftBottom t = jets (decided (atₑ leftBottom (sibsonₑ numbersₑ bottom)) (numberₑ leftBottom) tt (given C (whole (pos 0)) n))
+numbers C n left leftBottom t = jets (decided (atₑ leftBottom (sibsonₑ numbersₑ left)) (numberₑ leftBottom) tt (given C (whole (pos 0)) n))
+numbers C n left leftTop t = jets (decided (atₑ leftTop (sibsonₑ numbersₑ left)) (numberₑ leftTop) tt (given C (whole (pos 0)) n))
+numbers C n top leftBottom t = absurd t
+numbers C n top rightBottom t = absurd t
+numbers C n right leftTop t = absurd t
+numbers C n right leftBottom t = absurd t
+numbers C n bottom leftTop t = absurd t
+numbers C n bottom rightTop t = absurd t
+numbers C n left rightTop t = absurd t
+numbers C n left rightBottom t = absurd t
+
+-- W times a slope, over W, is the slope
+per-pixel : (C : Cell) (m : Corners) (c : Corner) → perPixel C (cornerNumbers C m c) ≋ ofNode (m c)
+unfolding perPixel cornerNumbers ofNode
+per-pixel C m c = record {
+  heights = ≈-refl (whole (m c .height));
+  xSlopes = record { crossed = solve 2 (λ w x. w ⊗ x ⊗ # 1 ≐ x ⊗ (# 1 ⊗ w)) tt (pos (C .W .number)) (m c .xSlope) };
+  ySlopes = record { crossed = solve 2 (λ h y. h ⊗ y ⊗ # 1 ≐ y ⊗ (# 1 ⊗ h)) tt (pos (C .H .number)) (m c .ySlope) };
+}
+
+pub nodes : (C : Cell) (m : Corners) → Has C (surface C m) (λ c. ofNode (m c))
+unfolding Has surface
+nodes C m k c t = ≋-trans {j = jet C (sibson (cornerNumbers C m) k) (at c)} {k = perPixel C (cornerNumbers C m c)} {l = ofNode (m c)} (numbers C (cornerNumbers C m) k c t) (per-pixel C m c)

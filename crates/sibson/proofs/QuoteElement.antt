@@ -1,0 +1,102 @@
+-- The set we read from as expressions, so that what is claimed of it can be decided. Assumes nothing.
+use mathlib.Core.List.{List, [], _∷_}
+use lib.ListN.{getD}
+use lib.IntN.{ℤ, pos}
+use Rattle.sibson.specs.Fraction.{ℚ}
+use Rattle.sibson.specs.Cubic.{Cell, Power, one, r¹, s¹, r², rs, s², r³, r²s, rs², s³}
+use Rattle.sibson.specs.Piece.{Piece, top, right, bottom, left, Corner, leftTop, rightTop, leftBottom, rightBottom}
+use Rattle.sibson.specs.Element.{Corners, inOrder, column, weights}
+use Rattle.integers.proofs.Polynomial.{Expr, var, con, #_, _⊕_, _⊗_, ⊖_}
+use Rattle.sibson.proofs.Quote.{Quotient, _/ₑ_, Cubicₑ, transposedₑ, flippedₑ}
+
+pub record Cornerₑ : Type 0 where
+  pub height : Expr
+  pub xSlope : Expr
+  pub ySlope : Expr
+
+abbrev pub Cornersₑ : Type 0
+Cornersₑ = Corner → Cornerₑ
+
+abbrev pub weighedₑ : List (List ℤ) → List Expr → Power → Expr
+weighedₑ [] ns p = # 0
+weighedₑ (row ∷ rows) [] p = # 0
+weighedₑ (row ∷ rows) (n ∷ ns) p = con (getD row (column p) (pos 0)) ⊗ n ⊕ weighedₑ rows ns p
+
+abbrev pub inOrderₑ : Cornersₑ → List Expr
+inOrderₑ n =
+    n leftTop .height ∷ n leftTop .xSlope ∷ n leftTop .ySlope ∷ n rightTop .height ∷ n rightTop .xSlope ∷ n rightTop .ySlope ∷
+    n leftBottom .height ∷ n leftBottom .xSlope ∷ n leftBottom .ySlope ∷ n rightBottom .height ∷ n rightBottom .xSlope ∷ n rightBottom .ySlope ∷ []
+
+abbrev pub halvedₑ : List (List ℤ) → Cornersₑ → Cubicₑ
+halvedₑ table n = record {
+  c00 = weighedₑ table (inOrderₑ n) one;
+  c10 = weighedₑ table (inOrderₑ n) r¹;
+  c01 = weighedₑ table (inOrderₑ n) s¹;
+  c20 = weighedₑ table (inOrderₑ n) r²;
+  c11 = weighedₑ table (inOrderₑ n) rs;
+  c02 = weighedₑ table (inOrderₑ n) s²;
+  c30 = weighedₑ table (inOrderₑ n) r³;
+  c21 = weighedₑ table (inOrderₑ n) r²s;
+  c12 = weighedₑ table (inOrderₑ n) rs²;
+  c03 = weighedₑ table (inOrderₑ n) s³;
+  divisor = # 2;
+}
+
+abbrev swapₑ : Cornerₑ → Cornerₑ
+swapₑ c = record { height = c .height; xSlope = c .ySlope; ySlope = c .xSlope }
+
+abbrev negateXₑ : Cornerₑ → Cornerₑ
+negateXₑ c = record { height = c .height; xSlope = ⊖ (c .xSlope); ySlope = c .ySlope }
+
+abbrev negateYₑ : Cornerₑ → Cornerₑ
+negateYₑ c = record { height = c .height; xSlope = c .xSlope; ySlope = ⊖ (c .ySlope) }
+
+abbrev exchangedₑ : Cornersₑ → Cornersₑ
+exchangedₑ n leftTop = swapₑ (n leftTop)
+exchangedₑ n rightTop = swapₑ (n leftBottom)
+exchangedₑ n leftBottom = swapₑ (n rightTop)
+exchangedₑ n rightBottom = swapₑ (n rightBottom)
+
+abbrev topDownₑ : Cornersₑ → Cornersₑ
+topDownₑ n leftTop = negateYₑ (n leftBottom)
+topDownₑ n rightTop = negateYₑ (n rightBottom)
+topDownₑ n leftBottom = negateYₑ (n leftTop)
+topDownₑ n rightBottom = negateYₑ (n rightTop)
+
+abbrev leftRightₑ : Cornersₑ → Cornersₑ
+leftRightₑ n leftTop = negateXₑ (n rightTop)
+leftRightₑ n rightTop = negateXₑ (n leftTop)
+leftRightₑ n leftBottom = negateXₑ (n rightBottom)
+leftRightₑ n rightBottom = negateXₑ (n leftBottom)
+
+abbrev onTopₑ : Cornersₑ → Cubicₑ
+onTopₑ n = halvedₑ weights n
+
+abbrev onLeftₑ : Cornersₑ → Cubicₑ
+onLeftₑ n = transposedₑ (onTopₑ (exchangedₑ n))
+
+abbrev pub sibsonₑ : Cornersₑ → Piece → Cubicₑ
+sibsonₑ n top = onTopₑ n
+sibsonₑ n right = transposedₑ (flippedₑ (transposedₑ (onLeftₑ (leftRightₑ n))))
+sibsonₑ n bottom = flippedₑ (onTopₑ (topDownₑ n))
+sibsonₑ n left = onLeftₑ n
+
+-- ---- variables: 0 is W, 1 is H, 2 / 3 is a fraction t, from 4 on the twelve numbers
+
+abbrev pub Wₑ : Expr
+Wₑ = var 0
+
+abbrev pub Hₑ : Expr
+Hₑ = var 1
+
+abbrev pub tₑ : Quotient
+tₑ = var 2 /ₑ var 3
+
+abbrev pub numbersₑ : Cornersₑ
+numbersₑ leftTop = record { height = var 4; xSlope = var 5; ySlope = var 6 }
+numbersₑ rightTop = record { height = var 7; xSlope = var 8; ySlope = var 9 }
+numbersₑ leftBottom = record { height = var 10; xSlope = var 11; ySlope = var 12 }
+numbersₑ rightBottom = record { height = var 13; xSlope = var 14; ySlope = var 15 }
+
+abbrev pub given : Cell → ℚ → Corners → List ℤ
+given C t n = pos (C .W .number) ∷ pos (C .H .number) ∷ t .numerator ∷ pos (t .denominator .number) ∷ inOrder n

@@ -1,0 +1,160 @@
+-- A quarter turn of the cell: the cubic at (1 − s, r). It takes each piece's place to the one before, and the conditions to themselves. Assumes nothing.
+use mathlib.Core.Path.{_≡_, refl}
+use mathlib.Core.List.{[], _∷_}
+use lib.Dec.{T}
+use lib.IntN.{ℤ, pos, negℤ, _+ℤ_, _*ℤ_}
+use Rattle.sibson.specs.Fraction.{ℚ, _≈_, _≤ℚ_, _·ℚ_, _÷_, whole, half, complement}
+use Rattle.sibson.specs.Cubic.{Cell, Point, Cubic, Power, one, r¹, s¹, r², rs, s², r³, r²s, rs², s³, coefficient, value, byR, byS, Jet, jet, _≋_}
+use Rattle.sibson.specs.Piece.{Piece, top, right, bottom, left, next, FourCubics, triangle, HalfDiagonal, Corner, leftTop, rightTop, leftBottom, rightBottom, at}
+use Rattle.sibson.specs.Conditions.{squareTerm, squareInR, squareInS}
+use Rattle.sibson.specs.Element.{transposed, flipped}
+use Rattle.integers.proofs.Polynomial.{#_, _⊗_, _⊕_, ⊖_}
+use Rattle.integers.proofs.Solve.{_≐_}
+use Rattle.integers.proofs.Deduce.{_·_, certified-sound}
+use Rattle.sibson.proofs.Fractions.{≈-refl, ≈-sym, ≈-trans, ≈-·, ≈-÷, ≈-complement, ≤-left, ≤-right, ≤-complement}
+use Rattle.sibson.proofs.Jets.{≋-sym, ≋-trans, _≈ₚ_, jet-at, none}
+use Rattle.sibson.proofs.Quote.{Quotient, wholeₑ, _-ₑ_, _·ₑ_, Cubicₑ, valueₑ, byRₑ, bySₑ, transposedₑ, flippedₑ, squareₑ, equal, anyₑ, rₑ, sₑ, any, cubic}
+
+unfoldable pub rotated : Cubic → Cubic
+rotated f = flipped (transposed f)
+
+abbrev pub around : Point → Point
+around P = record { r = complement (P .s); s = P .r }
+
+-- width and height exchanged
+abbrev pub onSide : Cell → Cell
+onSide C = record { W = C .H; H = C .W }
+
+abbrev pub quarter : Jet ℚ → Jet ℚ
+quarter j = record { height = j .height; xSlope = j .ySlope; ySlope = negℤ (pos 1) ·ℚ j .xSlope }
+
+unfoldable pub rotatedSet : FourCubics → FourCubics
+rotatedSet S k = rotated (S (next k))
+
+-- ---- heights and slopes
+
+abbrev rotatedₑ : Cubicₑ
+rotatedₑ = flippedₑ (transposedₑ anyₑ)
+
+rotated-value : (f : Cubic) (P : Point) → value (rotated f) P ≈ value f (around P)
+unfolding value rotated flipped transposed
+rotated-value f P = record { crossed = equal (valueₑ rotatedₑ rₑ sₑ) (valueₑ anyₑ (wholeₑ (# 1) -ₑ sₑ) rₑ) tt (any f P []) }
+
+rotated-byR : (f : Cubic) (P : Point) → value (byR (rotated f)) P ≈ value (byS f) (around P)
+unfolding value rotated flipped transposed byR byS
+rotated-byR f P = record { crossed = equal (valueₑ (byRₑ rotatedₑ) rₑ sₑ) (valueₑ (bySₑ anyₑ) (wholeₑ (# 1) -ₑ sₑ) rₑ) tt (any f P []) }
+
+rotated-byS : (f : Cubic) (P : Point) → value (byS (rotated f)) P ≈ negℤ (pos 1) ·ℚ value (byR f) (around P)
+unfolding value rotated flipped transposed byR byS
+rotated-byS f P = record { crossed = equal (valueₑ (bySₑ rotatedₑ) rₑ sₑ) (⊖ # 1 ·ₑ valueₑ (byRₑ anyₑ) (wholeₑ (# 1) -ₑ sₑ) rₑ) tt (any f P []) }
+
+pub rotated-jet : (C : Cell) (f : Cubic) (P : Point) → jet (onSide C) (rotated f) P ≋ quarter (jet C f (around P))
+unfolding jet
+rotated-jet C f P = record {
+  heights = rotated-value f P;
+  xSlopes = ≈-÷ (C .H) (rotated-byR f P);
+  ySlopes = ≈-÷ (C .W) (rotated-byS f P);
+}
+
+pub ≋-quarter : {j k : Jet ℚ} → j ≋ k → quarter j ≋ quarter k
+≋-quarter e = record { heights = e .heights; xSlopes = e .ySlopes; ySlopes = ≈-· (negℤ (pos 1)) (e .xSlopes) }
+
+-- ---- the half diagonals
+
+same-half : complement half ≈ half
+same-half = record { crossed = refl }
+
+diagonal-around : (k : Piece) (P : Point) → HalfDiagonal k P → HalfDiagonal (next k) (around P)
+unfolding HalfDiagonal next
+diagonal-around top P (e, l, u) = (≈-sym e, ≤-right (≤-left (≈-sym same-half) (≤-complement u)) (≈-sym e), ≤-left e (≤-right (≤-complement l) (record { crossed = refl })))
+diagonal-around right P (e, l, u) = (≈-complement (≈-sym e), ≤-right l (≈-sym e), ≤-left e u)
+diagonal-around bottom P (e, l, u) = (≈-sym e, ≤-right (≤-left (record { crossed = refl }) (≤-complement u)) (≈-sym e), ≤-left e (≤-right (≤-complement l) same-half))
+diagonal-around left P (e, l, u) = (≈-complement (≈-sym e), ≤-right l (≈-sym e), ≤-left e u)
+
+-- along one half diagonal
+abbrev pub SmoothAt : Cell → FourCubics → Piece → Type 0
+SmoothAt C S k = (P : Point) → HalfDiagonal k P → jet C (S k) P ≋ jet C (S (next k)) P
+
+pub smooth-rotated : (C : Cell) (S : FourCubics) (k : Piece) → SmoothAt C S (next k) → SmoothAt (onSide C) (rotatedSet S) k
+unfolding rotatedSet
+smooth-rotated C S k smooth P h =
+    ≋-trans {j = jet (onSide C) (rotated (S (next k))) P} {k = quarter (jet C (S (next k)) (around P))} {l = jet (onSide C) (rotated (S (next (next k)))) P}
+    (rotated-jet C (S (next k)) P)
+    (≋-trans {j = quarter (jet C (S (next k)) (around P))} {k = quarter (jet C (S (next (next k))) (around P))} {l = jet (onSide C) (rotated (S (next (next k)))) P}
+    (≋-quarter (smooth (around P) (diagonal-around k P h))) (≋-sym (rotated-jet C (S (next (next k))) P)))
+
+-- ---- the edges
+
+pub square-rotated : (k : Piece) (f : Cubic) → squareTerm (next k) f ≡ pos 0 → squareTerm k (rotated f) ≡ pos 0
+unfolding squareTerm squareInR squareInS next rotated flipped transposed byR byS
+square-rotated top f e = certified-sound ((⊖ # 1 · (squareₑ right anyₑ ≐ # 0)) ∷ []) (squareₑ top rotatedₑ ≐ # 0) tt (cubic f []) e
+square-rotated right f e = certified-sound ((# 1 · (squareₑ bottom anyₑ ≐ # 0)) ∷ []) (squareₑ right rotatedₑ ≐ # 0) tt (cubic f []) e
+square-rotated bottom f e = certified-sound ((⊖ # 1 · (squareₑ left anyₑ ≐ # 0)) ∷ []) (squareₑ bottom rotatedₑ ≐ # 0) tt (cubic f []) e
+square-rotated left f e = certified-sound ((# 1 · (squareₑ top anyₑ ≐ # 0)) ∷ []) (squareₑ left rotatedₑ ≐ # 0) tt (cubic f []) e
+
+-- ---- the corners
+
+unfoldable pub NothingAtCorners : Cell → FourCubics → Type 0
+NothingAtCorners C S = (k : Piece) (c : Corner) → T (triangle k (at c)) → jet C (S k) (at c) ≋ none
+
+turn : Corner → Corner
+turn leftTop = rightTop
+turn rightTop = rightBottom
+turn leftBottom = leftTop
+turn rightBottom = leftBottom
+
+turned-point : (c : Corner) → around (at c) ≈ₚ at (turn c)
+unfolding turn
+turned-point leftTop = record { rs = record { crossed = refl }; ss = record { crossed = refl } }
+turned-point rightTop = record { rs = record { crossed = refl }; ss = record { crossed = refl } }
+turned-point leftBottom = record { rs = record { crossed = refl }; ss = record { crossed = refl } }
+turned-point rightBottom = record { rs = record { crossed = refl }; ss = record { crossed = refl } }
+
+-- a piece touches a corner as the next piece touches the turned one: both sides compute
+touches : (k : Piece) (c : Corner) → T (triangle k (at c)) → T (triangle (next k) (at (turn c)))
+unfolding next turn
+touches top leftTop t = t
+touches top rightTop t = t
+touches top leftBottom t = t
+touches top rightBottom t = t
+touches right leftTop t = t
+touches right rightTop t = t
+touches right leftBottom t = t
+touches right rightBottom t = t
+touches bottom leftTop t = t
+touches bottom rightTop t = t
+touches bottom leftBottom t = t
+touches bottom rightBottom t = t
+touches left leftTop t = t
+touches left rightTop t = t
+touches left leftBottom t = t
+touches left rightBottom t = t
+
+quarter-none : quarter none ≋ none
+unfolding none
+quarter-none = record { heights = record { crossed = refl }; xSlopes = record { crossed = refl }; ySlopes = record { crossed = refl } }
+
+pub corners-rotated : (C : Cell) (S : FourCubics) → NothingAtCorners C S → NothingAtCorners (onSide C) (rotatedSet S)
+unfolding NothingAtCorners rotatedSet
+corners-rotated C S h k c t =
+    ≋-trans {j = jet (onSide C) (rotated (S (next k))) (at c)} {k = quarter (jet C (S (next k)) (around (at c)))} {l = none} (rotated-jet C (S (next k)) (at c))
+    (≋-trans {j = quarter (jet C (S (next k)) (around (at c)))} {k = quarter none} {l = none}
+    (≋-quarter (≋-trans {j = jet C (S (next k)) (around (at c))} {k = jet C (S (next k)) (at (turn c))} {l = none} (jet-at C (S (next k)) (turned-point c)) (h (next k) (turn c) (touches k c t)))) quarter-none)
+
+-- ---- a cubic that is 0 when turned is 0
+
+unfoldable pub Zero : Cubic → Type 0
+Zero f = (p : Power) → coefficient f p ≡ pos 0
+
+pub zero-rotated : (f : Cubic) → Zero (rotated f) → Zero f
+unfolding Zero rotated flipped transposed
+zero-rotated f z one = certified-sound ((# 1 · (rotatedₑ .c00 ≐ # 0)) ∷ (# 1 · (rotatedₑ .c01 ≐ # 0)) ∷ (# 1 · (rotatedₑ .c02 ≐ # 0)) ∷ (# 1 · (rotatedₑ .c03 ≐ # 0)) ∷ []) (anyₑ .c00 ≐ # 0) tt (cubic f []) (z one) (z s¹) (z s²) (z s³)
+zero-rotated f z r¹ = certified-sound ((⊖ # 1 · (rotatedₑ .c01 ≐ # 0)) ∷ (⊖ # 2 · (rotatedₑ .c02 ≐ # 0)) ∷ (⊖ # 3 · (rotatedₑ .c03 ≐ # 0)) ∷ []) (anyₑ .c10 ≐ # 0) tt (cubic f []) (z s¹) (z s²) (z s³)
+zero-rotated f z s¹ = certified-sound ((# 1 · (rotatedₑ .c10 ≐ # 0)) ∷ (# 1 · (rotatedₑ .c11 ≐ # 0)) ∷ (# 1 · (rotatedₑ .c12 ≐ # 0)) ∷ []) (anyₑ .c01 ≐ # 0) tt (cubic f []) (z r¹) (z rs) (z rs²)
+zero-rotated f z r² = certified-sound ((# 1 · (rotatedₑ .c02 ≐ # 0)) ∷ (# 3 · (rotatedₑ .c03 ≐ # 0)) ∷ []) (anyₑ .c20 ≐ # 0) tt (cubic f []) (z s²) (z s³)
+zero-rotated f z rs = certified-sound ((⊖ # 1 · (rotatedₑ .c11 ≐ # 0)) ∷ (⊖ # 2 · (rotatedₑ .c12 ≐ # 0)) ∷ []) (anyₑ .c11 ≐ # 0) tt (cubic f []) (z rs) (z rs²)
+zero-rotated f z s² = certified-sound ((# 1 · (rotatedₑ .c20 ≐ # 0)) ∷ (# 1 · (rotatedₑ .c21 ≐ # 0)) ∷ []) (anyₑ .c02 ≐ # 0) tt (cubic f []) (z r²) (z r²s)
+zero-rotated f z r³ = certified-sound ((⊖ # 1 · (rotatedₑ .c03 ≐ # 0)) ∷ []) (anyₑ .c30 ≐ # 0) tt (cubic f []) (z s³)
+zero-rotated f z r²s = certified-sound ((# 1 · (rotatedₑ .c12 ≐ # 0)) ∷ []) (anyₑ .c21 ≐ # 0) tt (cubic f []) (z rs²)
+zero-rotated f z rs² = certified-sound ((⊖ # 1 · (rotatedₑ .c21 ≐ # 0)) ∷ []) (anyₑ .c12 ≐ # 0) tt (cubic f []) (z r²s)
+zero-rotated f z s³ = certified-sound ((# 1 · (rotatedₑ .c30 ≐ # 0)) ∷ []) (anyₑ .c03 ≐ # 0) tt (cubic f []) (z r³)

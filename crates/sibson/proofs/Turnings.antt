@@ -1,0 +1,31 @@
+-- The turned cubics are the cubics at the turned points. Assumes nothing.
+use mathlib.Core.List.{[]}
+use Rattle.sibson.specs.Fraction.{_≈_, complement}
+use Rattle.sibson.specs.Cubic.{Point, Cubic, value}
+use Rattle.sibson.specs.Element.{transposed, flipped, mirrored, exchanged, topDown, leftRight, onTop, onLeft, sibson}
+use Rattle.sibson.specs.Sense.{Turnings}
+use Rattle.integers.proofs.Polynomial.{#_}
+use Rattle.sibson.proofs.Quote.{wholeₑ, _-ₑ_, valueₑ, transposedₑ, flippedₑ, equal, anyₑ, rₑ, sₑ, any}
+
+transposing : (f : Cubic) (P : Point) → value (transposed f) P ≈ value f (record { r = P .s; s = P .r })
+unfolding value transposed
+transposing f P = record { crossed = equal (valueₑ (transposedₑ anyₑ) rₑ sₑ) (valueₑ anyₑ sₑ rₑ) tt (any f P []) }
+
+flipping : (f : Cubic) (P : Point) → value (flipped f) P ≈ value f (record { r = P .r; s = complement (P .s) })
+unfolding value flipped
+flipping f P = record { crossed = equal (valueₑ (flippedₑ anyₑ) rₑ sₑ) (valueₑ anyₑ rₑ (wholeₑ (# 1) -ₑ sₑ)) tt (any f P []) }
+
+mirroring : (f : Cubic) (P : Point) → value (mirrored f) P ≈ value f (record { r = complement (P .r); s = P .s })
+unfolding value mirrored transposed flipped
+mirroring f P = record { crossed = equal (valueₑ (transposedₑ (flippedₑ (transposedₑ anyₑ))) rₑ sₑ) (valueₑ anyₑ (wholeₑ (# 1) -ₑ rₑ) sₑ) tt (any f P []) }
+
+pub turnings : Turnings
+unfolding sibson onLeft
+turnings = record {
+  transposing = transposing;
+  flipping = flipping;
+  mirroring = mirroring;
+  left-of-top = λ n P. transposing (onTop (exchanged n)) P;
+  bottom-of-top = λ n P. flipping (onTop (topDown n)) P;
+  right-of-left = λ n P. mirroring (onLeft (leftRight n)) P;
+}

@@ -1,0 +1,57 @@
+-- Two sets that meet the conditions are equal exactly when they agree at the corners; so the set we read from is the one. Assumes nothing.
+use mathlib.Core.Path.{_≡_}
+use lib.Dec.{T}
+use Rattle.sibson.specs.Fraction.{ℚ}
+use Rattle.sibson.specs.Cubic.{Cell, Point, Jet, jet, _≋_}
+use Rattle.sibson.specs.Piece.{Piece, next, FourCubics, triangle, Corner, at}
+use Rattle.sibson.specs.Conditions.{Smooth, Meets, SameCorners, Equal}
+use Rattle.sibson.specs.Element.{Corners, sibson}
+use Rattle.sibson.specs.Theorems.{Uniqueness, Has, perPixel, Existence}
+use Rattle.sibson.proofs.Jets.{≋-sym, ≋-trans, _⊟_, none, ≋-⊟, ≋-minus, ≋-of-minus}
+use Rattle.sibson.proofs.Rotation.{NothingAtCorners}
+use Rattle.sibson.proofs.Difference.{difference, jet-difference, square-difference, equal-of-zero, zero-of-equal, zero-jet}
+use Rattle.sibson.proofs.Blank.{Blank, all-zero}
+use Rattle.sibson.proofs.Exists.{meets, numbers, nodes}
+
+module _ (C : Cell) (S S′ : FourCubics) where
+  D : FourCubics
+  D k = difference (S k) (S′ k)
+
+  -- the difference of two sets that meet the conditions and agree at the corners
+  blank : Meets C S → Meets C S′ → SameCorners C S S′ → Blank C D
+  unfolding D Smooth SameCorners NothingAtCorners
+  blank m m′ e = record {
+    smooth = λ k P h.
+        ≋-trans {j = jet C (D k) P} {k = jet C (S k) P ⊟ jet C (S′ k) P} {l = jet C (D (next k)) P} (jet-difference C (S k) (S′ k) P)
+        (≋-trans {j = jet C (S k) P ⊟ jet C (S′ k) P} {k = jet C (S (next k)) P ⊟ jet C (S′ (next k)) P} {l = jet C (D (next k)) P}
+        (≋-⊟ (m .smooth k P h) (m′ .smooth k P h)) (≋-sym (jet-difference C (S (next k)) (S′ (next k)) P)));
+    linear = λ k. square-difference k (S k) (S′ k) (m .linear k) (m′ .linear k);
+    corners = λ k c t.
+        ≋-trans {j = jet C (D k) (at c)} {k = jet C (S k) (at c) ⊟ jet C (S′ k) (at c)} {l = none} (jet-difference C (S k) (S′ k) (at c)) (≋-minus (e k c t));
+  }
+
+  equal : Meets C S → Meets C S′ → SameCorners C S S′ → Equal S S′
+  unfolding D Equal
+  equal m m′ e k = equal-of-zero (S k) (S′ k) (all-zero C D (blank m m′ e) k)
+
+  same-corners : Equal S S′ → SameCorners C S S′
+  unfolding Equal SameCorners
+  same-corners e k c t = ≋-of-minus {j = jet C (S k) (at c)} {k = jet C (S′ k) (at c)}
+      (≋-trans {j = jet C (S k) (at c) ⊟ jet C (S′ k) (at c)} {k = jet C (difference (S k) (S′ k)) (at c)} {l = none}
+      (≋-sym (jet-difference C (S k) (S′ k) (at c))) (zero-jet C (difference (S k) (S′ k)) (zero-of-equal (S k) (S′ k) (e k)) (at c)))
+
+pub uniqueness : Uniqueness
+uniqueness = record { exactly = λ C S S′ m m′. (same-corners C S S′, equal C S S′ m m′) }
+
+-- two sets with the same numbers at the corners
+same-numbers : (C : Cell) (S S′ : FourCubics) (j : Corner → Jet ℚ) → Has C S j → Has C S′ j → SameCorners C S S′
+unfolding Has SameCorners
+same-numbers C S S′ j a b k c t = ≋-trans {j = jet C (S k) (at c)} {k = j c} {l = jet C (S′ k) (at c)} (a k c t) (≋-sym (b k c t))
+
+pub existence : Existence
+existence = record {
+  meets = meets;
+  numbers = numbers;
+  only = λ C n S m h. uniqueness .exactly C S (sibson n) m (meets C n) .1 (same-numbers C S (sibson n) (λ c. perPixel C (n c)) h (numbers C n));
+  nodes = nodes;
+}

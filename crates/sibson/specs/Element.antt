@@ -1,0 +1,177 @@
+-- The Sibson element: the set we read from. Piece 0 by its weights, the other pieces by turnings (symmetries of the cell). Assumes nothing.
+use mathlib.Core.List.{List, [], _∷_}
+use Prim.Native.Nat.{ℕ}
+use lib.Dec.{T}
+use lib.ListN.{getD}
+use lib.IntN.{ℤ, pos, negℤ, _+ℤ_, _*ℤ_}
+use Rattle.sibson.specs.Fraction.{ℚ, positive, whole, _÷_, complement}
+use Rattle.sibson.specs.Cubic.{Cell, Point, Cubic, Power, one, r¹, s¹, r², rs, s², r³, r²s, rs², s³, Jet, jet, _≋_}
+use Rattle.sibson.specs.Piece.{Piece, top, right, bottom, left, FourCubics, triangle, Corner, leftTop, rightTop, leftBottom, rightBottom, at}
+
+-- twelve numbers, three for each corner. Of nodes: height in grains, slopes in grains per pixel
+abbrev pub Corners : Type 0
+Corners = Corner → Jet ℤ
+
+-- the cell's corner numbers: height, W times x-slope, H times y-slope
+unfoldable pub cornerNumbers : Cell → Corners → Corners
+cornerNumbers C m c = record {
+  height = m c .height;
+  xSlope = pos (C .W .number) *ℤ m c .xSlope;
+  ySlope = pos (C .H .number) *ℤ m c .ySlope;
+}
+
+-- in the order of the weights' rows
+unfoldable pub inOrder : Corners → List ℤ
+inOrder n =
+    n leftTop .height ∷ n leftTop .xSlope ∷ n leftTop .ySlope ∷ n rightTop .height ∷ n rightTop .xSlope ∷ n rightTop .ySlope ∷
+    n leftBottom .height ∷ n leftBottom .xSlope ∷ n leftBottom .ySlope ∷ n rightBottom .height ∷ n rightBottom .xSlope ∷ n rightBottom .ySlope ∷ []
+
+-- ---- piece 0
+
+-- a place of a row
+unfoldable pub column : Power → ℕ
+column one = 0
+column r¹ = 1
+column s¹ = 2
+column r² = 3
+column rs = 4
+column s² = 5
+column r³ = 6
+column r²s = 7
+column rs² = 8
+column s³ = 9
+
+infix 90 +_ −_
+abbrev pub +_ : ℕ → ℤ
++ n = pos n
+
+abbrev pub −_ : ℕ → ℤ
+− n = negℤ (pos n)
+
+-- the doubled weights of piece 0 (formula 105): a row for each corner number, a column for each power
+unfoldable pub weights : List (List ℤ)
+weights =
+    -- 1     r      s      r²     rs     s²     r³     r²s    rs²    s³
+    (+ 2 ∷ + 0 ∷ + 0 ∷ − 6 ∷ + 0 ∷ − 6 ∷ + 4 ∷ + 0 ∷ + 6 ∷ + 2 ∷ []) ∷
+    (+ 0 ∷ + 2 ∷ + 0 ∷ − 4 ∷ + 0 ∷ − 1 ∷ + 2 ∷ + 0 ∷ + 1 ∷ + 0 ∷ []) ∷
+    (+ 0 ∷ + 0 ∷ + 2 ∷ + 0 ∷ − 2 ∷ − 3 ∷ + 0 ∷ + 0 ∷ + 2 ∷ + 1 ∷ []) ∷
+    (+ 0 ∷ + 0 ∷ + 0 ∷ + 6 ∷ + 0 ∷ + 0 ∷ − 4 ∷ + 0 ∷ − 6 ∷ + 2 ∷ []) ∷
+    (+ 0 ∷ + 0 ∷ + 0 ∷ − 2 ∷ + 0 ∷ + 0 ∷ + 2 ∷ + 0 ∷ + 1 ∷ + 0 ∷ []) ∷
+    (+ 0 ∷ + 0 ∷ + 0 ∷ + 0 ∷ + 2 ∷ − 1 ∷ + 0 ∷ + 0 ∷ − 2 ∷ + 1 ∷ []) ∷
+    (+ 0 ∷ + 0 ∷ + 0 ∷ + 0 ∷ + 0 ∷ + 6 ∷ + 0 ∷ + 0 ∷ − 6 ∷ − 2 ∷ []) ∷
+    (+ 0 ∷ + 0 ∷ + 0 ∷ + 0 ∷ + 0 ∷ + 1 ∷ + 0 ∷ + 0 ∷ − 1 ∷ + 0 ∷ []) ∷
+    (+ 0 ∷ + 0 ∷ + 0 ∷ + 0 ∷ + 0 ∷ − 2 ∷ + 0 ∷ + 0 ∷ + 2 ∷ + 1 ∷ []) ∷
+    (+ 0 ∷ + 0 ∷ + 0 ∷ + 0 ∷ + 0 ∷ + 0 ∷ + 0 ∷ + 0 ∷ + 6 ∷ − 2 ∷ []) ∷
+    (+ 0 ∷ + 0 ∷ + 0 ∷ + 0 ∷ + 0 ∷ + 0 ∷ + 0 ∷ + 0 ∷ − 1 ∷ + 0 ∷ []) ∷
+    (+ 0 ∷ + 0 ∷ + 0 ∷ + 0 ∷ + 0 ∷ + 0 ∷ + 0 ∷ + 0 ∷ − 2 ∷ + 1 ∷ []) ∷ []
+
+-- the entries of a column, each times its row's number, added
+unfoldable pub weighed : List (List ℤ) → List ℤ → Power → ℤ
+weighed [] ns p = pos 0
+weighed (row ∷ rows) [] p = pos 0
+weighed (row ∷ rows) (n ∷ ns) p = getD row (column p) (pos 0) *ℤ n +ℤ weighed rows ns p
+
+-- the cubic that a table of doubled weights gives for twelve corner numbers
+unfoldable pub halved : List (List ℤ) → Corners → Cubic
+halved table n = record {
+  c00 = weighed table (inOrder n) one;
+  c10 = weighed table (inOrder n) r¹;
+  c01 = weighed table (inOrder n) s¹;
+  c20 = weighed table (inOrder n) r²;
+  c11 = weighed table (inOrder n) rs;
+  c02 = weighed table (inOrder n) s²;
+  c30 = weighed table (inOrder n) r³;
+  c21 = weighed table (inOrder n) r²s;
+  c12 = weighed table (inOrder n) rs²;
+  c03 = weighed table (inOrder n) s³;
+  divisor = positive 2 tt;
+}
+
+-- ---- turnings: of a cubic, by substitution, and of corner numbers
+
+-- the cubic at (s, r)
+unfoldable pub transposed : Cubic → Cubic
+transposed f = record {
+  c00 = f .c00;
+  c10 = f .c01;
+  c01 = f .c10;
+  c20 = f .c02;
+  c11 = f .c11;
+  c02 = f .c20;
+  c30 = f .c03;
+  c21 = f .c12;
+  c12 = f .c21;
+  c03 = f .c30;
+  divisor = f .divisor;
+}
+
+-- the cubic at (r, 1 − s)
+unfoldable pub flipped : Cubic → Cubic
+flipped f = record {
+  c00 = f .c00 +ℤ f .c01 +ℤ f .c02 +ℤ f .c03;
+  c10 = f .c10 +ℤ f .c11 +ℤ f .c12;
+  c01 = negℤ (f .c01 +ℤ pos 2 *ℤ f .c02 +ℤ pos 3 *ℤ f .c03);
+  c20 = f .c20 +ℤ f .c21;
+  c11 = negℤ (f .c11 +ℤ pos 2 *ℤ f .c12);
+  c02 = f .c02 +ℤ pos 3 *ℤ f .c03;
+  c30 = f .c30;
+  c21 = negℤ (f .c21);
+  c12 = f .c12;
+  c03 = negℤ (f .c03);
+  divisor = f .divisor;
+}
+
+-- the cubic at (1 − r, s)
+unfoldable pub mirrored : Cubic → Cubic
+mirrored f = transposed (flipped (transposed f))
+
+-- a corner's slopes exchanged or negated
+unfoldable pub swap : Jet ℤ → Jet ℤ
+swap c = record { height = c .height; xSlope = c .ySlope; ySlope = c .xSlope }
+
+unfoldable pub negateX : Jet ℤ → Jet ℤ
+negateX c = record { height = c .height; xSlope = negℤ (c .xSlope); ySlope = c .ySlope }
+
+unfoldable pub negateY : Jet ℤ → Jet ℤ
+negateY c = record { height = c .height; xSlope = c .xSlope; ySlope = negℤ (c .ySlope) }
+
+-- corners 10 and 01 exchanged, x-slopes exchanged with y-slopes
+unfoldable pub exchanged : Corners → Corners
+exchanged n leftTop = swap (n leftTop)
+exchanged n rightTop = swap (n leftBottom)
+exchanged n leftBottom = swap (n rightTop)
+exchanged n rightBottom = swap (n rightBottom)
+
+-- top and bottom corners exchanged, y-slopes negated
+unfoldable pub topDown : Corners → Corners
+topDown n leftTop = negateY (n leftBottom)
+topDown n rightTop = negateY (n rightBottom)
+topDown n leftBottom = negateY (n leftTop)
+topDown n rightBottom = negateY (n rightTop)
+
+-- left and right corners exchanged, x-slopes negated
+unfoldable pub leftRight : Corners → Corners
+leftRight n leftTop = negateX (n rightTop)
+leftRight n rightTop = negateX (n leftTop)
+leftRight n leftBottom = negateX (n rightBottom)
+leftRight n rightBottom = negateX (n leftBottom)
+
+-- ---- the set we read from, for a cell's twelve corner numbers
+
+-- piece 0, and piece 3: piece 0 at (s, r)
+unfoldable pub onTop : Corners → Cubic
+onTop n = halved weights n
+
+unfoldable pub onLeft : Corners → Cubic
+onLeft n = transposed (onTop (exchanged n))
+
+-- piece 2 is piece 0 at (r, 1 − s), piece 1 is piece 3 at (1 − r, s)
+unfoldable pub sibson : Corners → FourCubics
+sibson n top = onTop n
+sibson n right = mirrored (onLeft (leftRight n))
+sibson n bottom = flipped (onTop (topDown n))
+sibson n left = onLeft n
+
+-- the same for a cell's nodes
+unfoldable pub surface : Cell → Corners → FourCubics
+surface C m = sibson (cornerNumbers C m)

@@ -1,0 +1,10 @@
+pub mod Fraction
+pub mod Cubic
+pub mod Piece
+pub mod Conditions
+pub mod Element
+pub mod Theorems
+pub mod Sense
+pub mod Source
+pub mod Needed
+pub mod Examples

@@ -1,0 +1,24 @@
+-- The conditions are needed: without any one of the four edges, or any two of the half diagonals, unequal sets agree at the corners. Assumes nothing.
+use mathlib.Core.Path.{_≡_}
+use lib.IntN.{pos}
+use Rattle.sibson.specs.Cubic.{Cell, Point, jet, _≋_}
+use Rattle.sibson.specs.Piece.{Piece, next, FourCubics, HalfDiagonal}
+use Rattle.sibson.specs.Conditions.{squareTerm, SameCorners, Equal}
+
+-- the conditions along some of the half diagonals and some of the edges; along all of them they are `Meets`
+pub record MeetsSome (diagonals edges : Piece → Type 0) (C : Cell) (S : FourCubics) : Type 0 where
+  pub smooth : (k : Piece) → diagonals k → (P : Point) → HalfDiagonal k P → jet C (S k) P ≋ jet C (S (next k)) P
+  pub linear : (k : Piece) → edges k → squareTerm k (S k) ≡ pos 0
+
+-- two unequal sets that meet those and have the same height and slopes at the corners
+pub record Counterexample (diagonals edges : Piece → Type 0) (C : Cell) : Type 0 where
+  pub S : FourCubics
+  pub S′ : FourCubics
+  pub meets : MeetsSome diagonals edges C S
+  pub meets′ : MeetsSome diagonals edges C S′
+  pub corners : SameCorners C S S′
+  pub unequal : ¬ Equal S S′
+
+pub record Needed : Type 0 where
+  pub edge : (C : Cell) (k : Piece) → Counterexample (λ l. Unit {0}) (λ l. ¬ (l ≡ k)) C
+  pub halfDiagonals : (C : Cell) (j k : Piece) → ¬ (j ≡ k) → Counterexample (λ l. ¬ (l ≡ j) × ¬ (l ≡ k)) (λ l. Unit {0}) C

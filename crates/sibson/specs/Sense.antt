@@ -1,0 +1,73 @@
+-- That the definitions mean what they say: derivatives, turnings, linear slopes, pieces. Assumes nothing.
+use mathlib.Core.Path.{_≡_}
+use mathlib.Core.Logic.{_↔_}
+use mathlib.Core.Bool.{Bool}
+use Prim.Native.Nat.{_≤_}
+use lib.Dec.{T}
+use lib.IntN.{pos}
+use Rattle.sibson.specs.Fraction.{ℚ, _≈_, _≤ℚ_, _+ℚ_, _*ℚ_, _÷_, positive, whole, complement}
+use Rattle.sibson.specs.Cubic.{Cell, Point, Cubic, value, byR, byS, jet, _≋_}
+use Rattle.sibson.specs.Piece.{Piece, top, right, bottom, left, number, next, FourCubics, InCell, triangle, pieceAt, HalfDiagonal, edge}
+use Rattle.sibson.specs.Conditions.{squareTerm, Smooth}
+use Rattle.sibson.specs.Element.{Corners, transposed, flipped, mirrored, exchanged, topDown, leftRight, sibson}
+
+-- equality is an equivalence that the operations respect
+pub record FractionLaws : Type 0 where
+  pub reflexive : (x : ℚ) → x ≈ x
+  pub symmetric : (x y : ℚ) → x ≈ y → y ≈ x
+  pub transitive : (x y z : ℚ) → x ≈ y → y ≈ z → x ≈ z
+  pub sums : (x x′ y y′ : ℚ) → x ≈ x′ → y ≈ y′ → x +ℚ y ≈ x′ +ℚ y′
+  pub products : (x x′ y y′ : ℚ) → x ≈ x′ → y ≈ y′ → x *ℚ y ≈ x′ *ℚ y′
+
+-- h f′ + h² (f″/2 + h f‴/6), for the derivatives by one of the coordinates
+unfoldable pub increment : (Cubic → Cubic) → Cubic → Point → ℚ → ℚ
+increment by f P h =
+    h *ℚ value (by f) P +ℚ h *ℚ h *ℚ (value (by (by f)) P ÷ positive 2 tt +ℚ h *ℚ (value (by (by (by f))) P ÷ positive 6 tt))
+
+-- f(r + h, s) and f(r, s + h) are f(r, s) with h times the derivative and h² times a polynomial, for every cubic: also for a derivative
+pub record Derivatives : Type 0 where
+  pub along-r : (f : Cubic) (P : Point) (h : ℚ) → value f (record { r = P .r +ℚ h; s = P .s }) ≈ value f P +ℚ increment byR f P h
+  pub along-s : (f : Cubic) (P : Point) (h : ℚ) → value f (record { r = P .r; s = P .s +ℚ h }) ≈ value f P +ℚ increment byS f P h
+
+-- a turned cubic is the cubic at the turned point, and so for the set we read from
+pub record Turnings : Type 0 where
+  pub transposing : (f : Cubic) (P : Point) → value (transposed f) P ≈ value f (record { r = P .s; s = P .r })
+  pub flipping : (f : Cubic) (P : Point) → value (flipped f) P ≈ value f (record { r = P .r; s = complement (P .s) })
+  pub mirroring : (f : Cubic) (P : Point) → value (mirrored f) P ≈ value f (record { r = complement (P .r); s = P .s })
+  pub left-of-top : (n : Corners) (P : Point) → value (sibson n left) P ≈ value (sibson (exchanged n) top) (record { r = P .s; s = P .r })
+  pub bottom-of-top : (n : Corners) (P : Point) → value (sibson n bottom) P ≈ value (sibson (topDown n) top) (record { r = P .r; s = complement (P .s) })
+  pub right-of-left : (n : Corners) (P : Point) → value (sibson n right) P ≈ value (sibson (leftRight n) left) (record { r = complement (P .r); s = P .s })
+
+-- the slope across a piece's edge
+unfoldable pub crossSlope : Cell → Piece → Cubic → Point → ℚ
+crossSlope C top f P = jet C f P .ySlope
+crossSlope C right f P = jet C f P .xSlope
+crossSlope C bottom f P = jet C f P .ySlope
+crossSlope C left f P = jet C f P .xSlope
+
+-- it goes in a straight line from the edge's first end to its last
+unfoldable pub Straight : Cell → Piece → Cubic → Type 0
+Straight C k f = (t : ℚ) → whole (pos 0) ≤ℚ t → t ≤ℚ whole (pos 1) →
+    crossSlope C k f (edge k t)
+    ≈ complement t *ℚ crossSlope C k f (edge k (whole (pos 0))) +ℚ t *ℚ crossSlope C k f (edge k (whole (pos 1)))
+
+-- no square term is linearity at all points of the edge
+pub record Linearity : Type 0 where
+  pub straight : (C : Cell) (k : Piece) (f : Cubic) → (squareTerm k f ≡ pos 0) ↔ Straight C k f
+
+-- two pieces that share a point are the same, or share a half diagonal there, or the point is the centre, where all four meet
+pub data Sharing (k l : Piece) (P : Point) : Type 0 where
+  same : k ≡ l → Sharing k l P
+  with-next : l ≡ next k → HalfDiagonal k P → Sharing k l P
+  with-previous : k ≡ next l → HalfDiagonal l P → Sharing k l P
+  at-centre : ((j : Piece) → HalfDiagonal j P) → Sharing k l P
+
+pub record Covering : Type 0 where
+  -- every point is in its piece, which has the lowest number of those that hold it
+  pub covers : (P : Point) → T (triangle (pieceAt P) P)
+  pub lowest : (P : Point) (k : Piece) → T (triangle k P) → number (pieceAt P) ≤ number k
+  -- a half diagonal is where the triangles meet
+  pub meeting : (k : Piece) (P : Point) → HalfDiagonal k P → InCell P × T (triangle k P) × T (triangle (next k) P)
+  pub shared : (P : Point) → InCell P → (k l : Piece) → T (triangle k P) → T (triangle l P) → Sharing k l P
+  -- so the pieces of a smooth set agree wherever they meet
+  pub agree : (C : Cell) (S : FourCubics) → Smooth C S → (P : Point) → InCell P → (k l : Piece) → T (triangle k P) → T (triangle l P) → jet C (S k) P ≋ jet C (S l) P
