@@ -4,14 +4,16 @@ use mathlib.Core.Path.{_≡_, refl, sym, subst, ap₂}
 use Prim.Native.Nat.{ℕ, _<_}
 use lib.IntN.{ℤ, pos, negℤ, _+ℤ_, _*ℤ_}
 use Rattle.sibson.specs.Fraction.{Positive, ℚ, _≈_, _+ℚ_, _-ℚ_, _*ℚ_, _·ℚ_, _÷_, whole, complement}
-use Rattle.sibson.specs.Cubic.{Cell, Point, value, byR, byS, Jet, jet, _≋_}
+use Rattle.sibson.specs.Cubic.{Cell, Point, Cubic, value, byR, byS, Jet, jet, _≋_}
 use Rattle.sibson.specs.Piece.{Piece, top, right, bottom, left, edge, Corner, leftTop, rightTop, leftBottom, rightBottom}
 use Rattle.sibson.specs.Element.{Corners, cornerNumbers, inOrder, column, weights, weighed, halved, transposed, flipped, mirrored, swap, negateX, negateY, exchanged, topDown, leftRight, onTop, onLeft, sibson, surface}
 use Rattle.sibson.specs.Theorems.{lengthOf, first, last, SharedEdge, AgreeAlong, Edges}
 use Rattle.integers.proofs.Polynomial.{Expr, #_, _⊕_, _⊗_, _⊝_, ⊖_}
-use Rattle.sibson.proofs.Jets.{≋-refl, ≋-sym, ≋-trans}
-use Rattle.sibson.proofs.Quote.{Quotient, wholeₑ, _+ₑ_, _-ₑ_, _*ₑ_, _·ₑ_, _÷ₑ_, Cubicₑ, Jetₑ, jetₑ, decided, jets}
-use Rattle.sibson.proofs.QuoteElement.{Cornerₑ, Cornersₑ, sibsonₑ, numbersₑ, Wₑ, Hₑ, tₑ, given}
+use Rattle.sibson.proofs.Fractions.{≈-÷}
+use Rattle.sibson.proofs.Jets.{≋-sym, ≋-trans}
+use Rattle.sibson.proofs.Quote.{Quotient, wholeₑ, _+ₑ_, _-ₑ_, _*ₑ_, _·ₑ_, _÷ₑ_, Cubicₑ, byRₑ, bySₑ, Jetₑ, decided, jets}
+use Rattle.sibson.proofs.Evaluate.{numerator, cubes, common, value-is, commonₑ}
+use Rattle.sibson.proofs.QuoteElement.{Cornersₑ, sibsonₑ, numbersₑ, Wₑ, Hₑ, tₑ, given}
 
 -- along an edge of length L from node a to node b, the slope along it first
 unfoldable pub along : Positive → Jet ℤ → Jet ℤ → ℚ → Jet ℚ
@@ -32,9 +34,24 @@ onEdge right L a b t = turned (along L (swap a) (swap b) t)
 onEdge bottom L a b t = along L a b t
 onEdge left L a b t = turned (along L (swap a) (swap b) t)
 
+-- ---- heights and slopes with every value over one denominator
+
+abbrev commonJet : Cell → Cubic → Point → Jet ℚ
+commonJet C f P = record { height = common f P; xSlope = common (byR f) P ÷ C .W; ySlope = common (byS f) P ÷ C .H }
+
+by-common : (C : Cell) (f : Cubic) (P : Point) {j : Jet ℚ} → commonJet C f P ≋ j → jet C f P ≋ j
+unfolding jet
+by-common C f P {j} e = ≋-trans {j = jet C f P} {k = commonJet C f P} {l = j} is e
+  where
+    is : jet C f P ≋ commonJet C f P
+    is = record { heights = value-is f P; xSlopes = ≈-÷ (C .W) (value-is (byR f) P); ySlopes = ≈-÷ (C .H) (value-is (byS f) P) }
+
 -- ---- the same, quoted
 
-abbrev alongₑ : Expr → Cornerₑ → Cornerₑ → Quotient → Jetₑ
+abbrev commonJetₑ : Cubicₑ → Quotient → Quotient → Jetₑ
+commonJetₑ f r s = record { height = commonₑ f r s; xSlope = commonₑ (byRₑ f) r s ÷ₑ Wₑ; ySlope = commonₑ (bySₑ f) r s ÷ₑ Hₑ }
+
+abbrev alongₑ : Expr → Jet Expr → Jet Expr → Quotient → Jetₑ
 alongₑ l a b t = let u = wholeₑ (# 1) -ₑ t in record {
   height = a .height ·ₑ (u *ₑ u *ₑ (u +ₑ # 3 ·ₑ t)) +ₑ (l ⊗ a .xSlope) ·ₑ (t *ₑ u *ₑ u)
       +ₑ b .height ·ₑ (t *ₑ t *ₑ (t +ₑ # 3 ·ₑ u)) +ₑ ⊖ (l ⊗ b .xSlope) ·ₑ (t *ₑ t *ₑ u);
@@ -42,27 +59,24 @@ alongₑ l a b t = let u = wholeₑ (# 1) -ₑ t in record {
   ySlope = a .ySlope ·ₑ u +ₑ b .ySlope ·ₑ t;
 }
 
-abbrev swapₑ : Cornerₑ → Cornerₑ
-swapₑ c = record { height = c .height; xSlope = c .ySlope; ySlope = c .xSlope }
-
-abbrev downₑ : Cornerₑ → Cornerₑ → Jetₑ
-downₑ a b = let j = alongₑ Hₑ (swapₑ a) (swapₑ b) tₑ in record { height = j .height; xSlope = j .ySlope; ySlope = j .xSlope }
+abbrev downₑ : Jet Expr → Jet Expr → Jetₑ
+downₑ a b = let j = alongₑ Hₑ (swap a) (swap b) tₑ in record { height = j .height; xSlope = j .ySlope; ySlope = j .xSlope }
 
 abbrev nodesₑ : Cornersₑ
 nodesₑ c = record { height = numbersₑ c .height; xSlope = Wₑ ⊗ numbersₑ c .xSlope; ySlope = Hₑ ⊗ numbersₑ c .ySlope }
 
 abbrev edgeₑ : Piece → Jetₑ
-edgeₑ top = jetₑ Wₑ Hₑ (sibsonₑ nodesₑ top) tₑ (wholeₑ (# 0))
-edgeₑ right = jetₑ Wₑ Hₑ (sibsonₑ nodesₑ right) (wholeₑ (# 1)) tₑ
-edgeₑ bottom = jetₑ Wₑ Hₑ (sibsonₑ nodesₑ bottom) tₑ (wholeₑ (# 1))
-edgeₑ left = jetₑ Wₑ Hₑ (sibsonₑ nodesₑ left) (wholeₑ (# 0)) tₑ
+edgeₑ top = commonJetₑ (sibsonₑ nodesₑ top) tₑ (wholeₑ (# 0))
+edgeₑ right = commonJetₑ (sibsonₑ nodesₑ right) (wholeₑ (# 1)) tₑ
+edgeₑ bottom = commonJetₑ (sibsonₑ nodesₑ bottom) tₑ (wholeₑ (# 1))
+edgeₑ left = commonJetₑ (sibsonₑ nodesₑ left) (wholeₑ (# 0)) tₑ
 
 on-edge : (C : Cell) (m : Corners) (k : Piece) (t : ℚ) → jet C (surface C m k) (edge k t) ≋ onEdge k (lengthOf C k) (m (first k)) (m (last k)) t
-unfolding jet value byR byS inOrder column weights weighed halved transposed flipped mirrored swap negateX negateY exchanged topDown leftRight onTop onLeft sibson surface cornerNumbers onEdge along turned
-on-edge C m top t = jets (decided (edgeₑ top) (alongₑ Wₑ (numbersₑ leftTop) (numbersₑ rightTop) tₑ) tt (given C t m))
-on-edge C m right t = jets (decided (edgeₑ right) (downₑ (numbersₑ rightTop) (numbersₑ rightBottom)) tt (given C t m))
-on-edge C m bottom t = jets (decided (edgeₑ bottom) (alongₑ Wₑ (numbersₑ leftBottom) (numbersₑ rightBottom) tₑ) tt (given C t m))
-on-edge C m left t = jets (decided (edgeₑ left) (downₑ (numbersₑ leftTop) (numbersₑ leftBottom)) tt (given C t m))
+unfolding numerator cubes byR byS inOrder column weights weighed halved transposed flipped mirrored swap negateX negateY exchanged topDown leftRight onTop onLeft sibson surface cornerNumbers onEdge along turned
+on-edge C m top t = by-common C (surface C m top) (edge top t) (jets (decided (edgeₑ top) (alongₑ Wₑ (numbersₑ leftTop) (numbersₑ rightTop) tₑ) tt (given C t m)))
+on-edge C m right t = by-common C (surface C m right) (edge right t) (jets (decided (edgeₑ right) (downₑ (numbersₑ rightTop) (numbersₑ rightBottom)) tt (given C t m)))
+on-edge C m bottom t = by-common C (surface C m bottom) (edge bottom t) (jets (decided (edgeₑ bottom) (alongₑ Wₑ (numbersₑ leftBottom) (numbersₑ rightBottom) tₑ) tt (given C t m)))
+on-edge C m left t = by-common C (surface C m left) (edge left t) (jets (decided (edgeₑ left) (downₑ (numbersₑ leftTop) (numbersₑ leftBottom)) tt (given C t m)))
 
 -- ---- two cells
 

@@ -1,15 +1,14 @@
 -- Sets that are not 0, have nothing at the corners, and meet all conditions but those along one edge, or along two half diagonals; the others by
 -- quarter turns. Assumes nothing.
 use mathlib.Core.Path.{_≡_, refl, sym, _∙_, ap, subst}
-use mathlib.Core.Bool.{Bool, _&&_}
 use mathlib.Core.List.{List, [], _∷_}
 use Prim.Native.Nat.{ℕ, _<_}
 use native.Mathlib.Omega.{arith}
 use lib.Dec.{T, ltb, ltb→lt}
 use lib.ListN.{getD}
-use lib.IntN.{ℤ, pos, negℤ, natAbs}
-use Rattle.sibson.specs.Fraction.{ℚ, positive, half, complement}
-use Rattle.sibson.specs.Cubic.{Cell, Point, Cubic, Power, one, r¹, s¹, r², rs, s², r³, r²s, rs², s³, coefficient, _≅_, value, byR, byS, Jet, jet, _≋_}
+use lib.IntN.{ℤ, pos, natAbs}
+use Rattle.sibson.specs.Fraction.{ℚ, positive, half}
+use Rattle.sibson.specs.Cubic.{Cell, Point, Cubic, Power, one, r¹, s¹, r², rs, s², r³, r²s, rs², s³, coefficient, _≅_, byR, byS, jet, _≋_}
 use Rattle.sibson.specs.Piece.{Piece, top, right, bottom, left, number, next, FourCubics, triangle, HalfDiagonal, Corner, leftTop, rightTop, leftBottom, rightBottom, at}
 use Rattle.sibson.specs.Conditions.{squareTerm, squareInR, squareInS, SameCorners, Equal}
 use Rattle.sibson.specs.Element.{+_, −_}
@@ -18,10 +17,10 @@ use Rattle.integers.proofs.Polynomial.{con, #_, _⊗_}
 use Rattle.integers.proofs.Solve.{_≐_}
 use Rattle.integers.proofs.Deduce.{_·_, _⊨_, deduce}
 use Rattle.sibson.proofs.Jets.{≋-sym, ≋-trans, none, jet-at}
-use Rattle.sibson.proofs.Quote.{Quotient, wholeₑ, _-ₑ_, Cubicₑ, Jetₑ, jetₑ, sameJet, decided, jets, fractionₑ, fraction}
+use Rattle.sibson.proofs.Quote.{Cubicₑ, fraction}
+use Rattle.sibson.proofs.Evaluate.{numerator, numeratorsAt, by-numerators, none-at, flatₑ, sameThree, same-three}
 use Rattle.sibson.proofs.Exists.{onLine, onLineₑ, on-line, atₑ}
 use Rattle.sibson.proofs.Rotation.{rotated, rotatedSet, onSide, SmoothAt, smooth-rotated, square-rotated, NothingAtCorners, corners-rotated, Zero, zero-rotated}
-use Rattle.sibson.proofs.Difference.{noneₑ}
 
 -- ---- sets of whole coefficients, in the powers' order
 
@@ -63,14 +62,14 @@ given C t = pos (C .W .number) ∷ pos (C .H .number) ∷ fraction t []
 
 -- the two pieces at a half diagonal agree on its line
 Joins : Coefficients → Piece → Type 0
-Joins c k = T (sameJet (onLineₑ k (whole-cubicₑ (c k))) (onLineₑ k (whole-cubicₑ (c (next k)))))
+Joins c k = T (sameThree (onLineₑ k (whole-cubicₑ (c k))) (onLineₑ k (whole-cubicₑ (c (next k)))))
 
 joined : (c : Coefficients) (C : Cell) (k : Piece) → Joins c k → (s : ℚ) → jet C (whole-cubic (c k)) (onLine k s) ≋ jet C (whole-cubic (c (next k))) (onLine k s)
-unfolding Joins next jet value byR byS
-joined c C top t s = jets (decided (onLineₑ top (whole-cubicₑ (c top))) (onLineₑ top (whole-cubicₑ (c right))) t (given C s))
-joined c C right t s = jets (decided (onLineₑ right (whole-cubicₑ (c right))) (onLineₑ right (whole-cubicₑ (c bottom))) t (given C s))
-joined c C bottom t s = jets (decided (onLineₑ bottom (whole-cubicₑ (c bottom))) (onLineₑ bottom (whole-cubicₑ (c left))) t (given C s))
-joined c C left t s = jets (decided (onLineₑ left (whole-cubicₑ (c left))) (onLineₑ left (whole-cubicₑ (c top))) t (given C s))
+unfolding Joins next numeratorsAt numerator byR byS
+joined c C top t s = by-numerators C (whole-cubic (c top)) (whole-cubic (c right)) (onLine top s) refl (same-three (onLineₑ top (whole-cubicₑ (c top))) (onLineₑ top (whole-cubicₑ (c right))) t (given C s))
+joined c C right t s = by-numerators C (whole-cubic (c right)) (whole-cubic (c bottom)) (onLine right s) refl (same-three (onLineₑ right (whole-cubicₑ (c right))) (onLineₑ right (whole-cubicₑ (c bottom))) t (given C s))
+joined c C bottom t s = by-numerators C (whole-cubic (c bottom)) (whole-cubic (c left)) (onLine bottom s) refl (same-three (onLineₑ bottom (whole-cubicₑ (c bottom))) (onLineₑ bottom (whole-cubicₑ (c left))) t (given C s))
+joined c C left t s = by-numerators C (whole-cubic (c left)) (whole-cubic (c top)) (onLine left s) refl (same-three (onLineₑ left (whole-cubicₑ (c left))) (onLineₑ left (whole-cubicₑ (c top))) t (given C s))
 
 smooth : (c : Coefficients) (C : Cell) (k : Piece) → Joins c k → SmoothAt C (λ l. whole-cubic (c l)) k
 smooth c C k t P h = let l = on-line k P h in
@@ -80,7 +79,7 @@ smooth c C k t P h = let l = on-line k P h in
 
 -- a piece has nothing at a corner
 Bare : Coefficients → Piece → Corner → Type 0
-Bare c k v = T (sameJet (atₑ v (whole-cubicₑ (c k))) noneₑ)
+Bare c k v = T (sameThree (atₑ v (whole-cubicₑ (c k))) flatₑ)
 
 record AllBare (c : Coefficients) : Type 0 where
   top-leftTop : Bare c top leftTop
@@ -93,15 +92,15 @@ record AllBare (c : Coefficients) : Type 0 where
   left-leftTop : Bare c left leftTop
 
 nothing : (c : Coefficients) (C : Cell) → AllBare c → NothingAtCorners C (λ k. whole-cubic (c k))
-unfolding NothingAtCorners Bare none jet value byR byS
-nothing c C b top leftTop t = jets (decided (atₑ leftTop (whole-cubicₑ (c top))) noneₑ (b .top-leftTop) (given C half))
-nothing c C b top rightTop t = jets (decided (atₑ rightTop (whole-cubicₑ (c top))) noneₑ (b .top-rightTop) (given C half))
-nothing c C b right rightTop t = jets (decided (atₑ rightTop (whole-cubicₑ (c right))) noneₑ (b .right-rightTop) (given C half))
-nothing c C b right rightBottom t = jets (decided (atₑ rightBottom (whole-cubicₑ (c right))) noneₑ (b .right-rightBottom) (given C half))
-nothing c C b bottom rightBottom t = jets (decided (atₑ rightBottom (whole-cubicₑ (c bottom))) noneₑ (b .bottom-rightBottom) (given C half))
-nothing c C b bottom leftBottom t = jets (decided (atₑ leftBottom (whole-cubicₑ (c bottom))) noneₑ (b .bottom-leftBottom) (given C half))
-nothing c C b left leftBottom t = jets (decided (atₑ leftBottom (whole-cubicₑ (c left))) noneₑ (b .left-leftBottom) (given C half))
-nothing c C b left leftTop t = jets (decided (atₑ leftTop (whole-cubicₑ (c left))) noneₑ (b .left-leftTop) (given C half))
+unfolding NothingAtCorners Bare numeratorsAt numerator byR byS
+nothing c C b top leftTop t = none-at C (whole-cubic (c top)) (at leftTop) (same-three (atₑ leftTop (whole-cubicₑ (c top))) flatₑ (b .top-leftTop) (given C half))
+nothing c C b top rightTop t = none-at C (whole-cubic (c top)) (at rightTop) (same-three (atₑ rightTop (whole-cubicₑ (c top))) flatₑ (b .top-rightTop) (given C half))
+nothing c C b right rightTop t = none-at C (whole-cubic (c right)) (at rightTop) (same-three (atₑ rightTop (whole-cubicₑ (c right))) flatₑ (b .right-rightTop) (given C half))
+nothing c C b right rightBottom t = none-at C (whole-cubic (c right)) (at rightBottom) (same-three (atₑ rightBottom (whole-cubicₑ (c right))) flatₑ (b .right-rightBottom) (given C half))
+nothing c C b bottom rightBottom t = none-at C (whole-cubic (c bottom)) (at rightBottom) (same-three (atₑ rightBottom (whole-cubicₑ (c bottom))) flatₑ (b .bottom-rightBottom) (given C half))
+nothing c C b bottom leftBottom t = none-at C (whole-cubic (c bottom)) (at leftBottom) (same-three (atₑ leftBottom (whole-cubicₑ (c bottom))) flatₑ (b .bottom-leftBottom) (given C half))
+nothing c C b left leftBottom t = none-at C (whole-cubic (c left)) (at leftBottom) (same-three (atₑ leftBottom (whole-cubicₑ (c left))) flatₑ (b .left-leftBottom) (given C half))
+nothing c C b left leftTop t = none-at C (whole-cubic (c left)) (at leftTop) (same-three (atₑ leftTop (whole-cubicₑ (c left))) flatₑ (b .left-leftTop) (given C half))
 nothing c C b top leftBottom t = absurd t
 nothing c C b top rightBottom t = absurd t
 nothing c C b right leftTop t = absurd t

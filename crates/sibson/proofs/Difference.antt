@@ -1,17 +1,19 @@
 -- The difference of two cubics: its heights and slopes are the differences, and it is 0 exactly when the two are equal. Assumes nothing.
-use mathlib.Core.Path.{_≡_, refl, sym, _∙_, subst}
+use mathlib.Core.Path.{_≡_, refl, sym, _∙_, ap, subst}
 use mathlib.Core.List.{[], _∷_}
+use Prim.Native.Nat.{_*_}
 use lib.IntN.{ℤ, pos, _+ℤ_, _-ℤ_, _*ℤ_}
-use Rattle.sibson.specs.Fraction.{Positive, ℚ, _≈_, _-ℚ_, _*⁺_, _÷_, whole}
-use Rattle.sibson.specs.Cubic.{Cell, Point, Cubic, Power, one, r¹, s¹, r², rs, s², r³, r²s, rs², s³, coefficient, _≅_, value, byR, byS, jet, _≋_}
+use Rattle.sibson.specs.Fraction.{Positive, ℚ, _≈_, _-ℚ_, _*⁺_, _÷_}
+use Rattle.sibson.specs.Cubic.{Cell, Point, Cubic, Power, one, r¹, s¹, r², rs, s², r³, r²s, rs², s³, coefficient, _≅_, value, byR, byS, Jet, jet, _≋_}
 use Rattle.sibson.specs.Piece.{Piece, top, right, bottom, left}
 use Rattle.sibson.specs.Conditions.{squareTerm, squareInR, squareInS}
-use Rattle.integers.proofs.Polynomial.{var, #_, _⊗_, _⊝_, ⊖_}
+use Rattle.integers.proofs.Polynomial.{Expr, #_, _⊕_, _⊗_, _⊝_, ⊖_}
 use Rattle.integers.proofs.Solve.{_≐_}
 use Rattle.integers.proofs.Deduce.{_·_, _⊨_, deduce, certified-sound}
-use Rattle.sibson.proofs.Fractions.{≈-refl}
+use Rattle.sibson.proofs.Fractions.{≈-sym, ≈-trans, ≈--, ≈-÷-minus}
 use Rattle.sibson.proofs.Jets.{_⊟_, none}
-use Rattle.sibson.proofs.Quote.{Cubicₑ, wholeₑ, _-ₑ_, _÷ₑ_, valueₑ, byRₑ, bySₑ, squareₑ, equal, Jetₑ, jetₑ, decided, jets, cubicₑ, fractionₑ, cubic, fraction}
+use Rattle.sibson.proofs.Quote.{Cubicₑ, squareₑ, cubicₑ, fractionₑ, cubic, fraction}
+use Rattle.sibson.proofs.Evaluate.{numerator, cubes, common, value-is, numeratorsAt, none-at, numeratorsₑ, flatₑ, same-three}
 use Rattle.sibson.proofs.Rotation.{Zero}
 
 unfoldable pub difference : Cubic → Cubic → Cubic
@@ -54,25 +56,41 @@ differenceₑ = let d = fₑ .divisor in let d′ = gₑ .divisor in record {
 
 -- ---- heights and slopes
 
-value-difference : (f g : Cubic) (P : Point) → value (difference f g) P ≈ value f P -ℚ value g P
-unfolding value difference
-value-difference f g P = record {
-  crossed = equal (valueₑ differenceₑ (fractionₑ 22) (fractionₑ 24)) (valueₑ fₑ (fractionₑ 22) (fractionₑ 24) -ₑ valueₑ gₑ (fractionₑ 22) (fractionₑ 24)) tt
-      (cubic f (cubic g (fraction (P .r) (fraction (P .s) []))));
+-- a value over both divisors, whose numerator is the difference crosswise
+minus : (h f g : Cubic) (P : Point) → h .divisor .number ≡ f .divisor .number * g .divisor .number →
+    numerator h P ≡ numerator f P *ℤ pos (g .divisor .number) -ℤ numerator g P *ℤ pos (f .divisor .number) → value h P ≈ value f P -ℚ value g P
+minus h f g P d e = ≈-trans {y = common h P} (value-is h P) (≈-trans {y = common f P -ℚ common g P} (record { crossed = crossed }) (≈-sym (≈-- (value-is f P) (value-is g P))))
+  where
+    crossed : common h P .numerator *ℤ pos ((common f P -ℚ common g P) .denominator .number) ≡ (common f P -ℚ common g P) .numerator *ℤ pos (common h P .denominator .number)
+    crossed = deduce 7 (λ x y z d d′ d″ n. (d ⊗ n ⊗ (d′ ⊗ n) · (x ≐ y ⊗ d′ ⊝ z ⊗ d)) ∷ (⊖ ((y ⊗ d′ ⊝ z ⊗ d) ⊗ n ⊗ n) · (d″ ≐ d ⊗ d′)) ∷ []
+        ⊨ x ⊗ (d ⊗ n ⊗ (d′ ⊗ n)) ≐ (y ⊗ (d′ ⊗ n) ⊕ ⊖ # 1 ⊗ z ⊗ (d ⊗ n)) ⊗ (d″ ⊗ n)) tt
+        (numerator h P) (numerator f P) (numerator g P) (pos (f .divisor .number)) (pos (g .divisor .number)) (pos (h .divisor .number)) (pos (cubes P .number)) e (ap pos d)
+
+abbrev crosswise : Jet ℤ → Jet ℤ → Cubic → Cubic → Jet ℤ
+crosswise a b f g = let d = pos (f .divisor .number) in let d′ = pos (g .divisor .number) in record {
+  height = a .height *ℤ d′ -ℤ b .height *ℤ d;
+  xSlope = a .xSlope *ℤ d′ -ℤ b .xSlope *ℤ d;
+  ySlope = a .ySlope *ℤ d′ -ℤ b .ySlope *ℤ d;
 }
 
+abbrev crosswiseₑ : Jet Expr → Jet Expr → Jet Expr
+crosswiseₑ a b = let d = fₑ .divisor in let d′ = gₑ .divisor in record {
+  height = a .height ⊗ d′ ⊝ b .height ⊗ d;
+  xSlope = a .xSlope ⊗ d′ ⊝ b .xSlope ⊗ d;
+  ySlope = a .ySlope ⊗ d′ ⊝ b .ySlope ⊗ d;
+}
+
+numerators-difference : (f g : Cubic) (P : Point) → numeratorsAt (difference f g) P ≡ crosswise (numeratorsAt f P) (numeratorsAt g P) f g
+unfolding numeratorsAt numerator byR byS difference
+numerators-difference f g P = let r = fractionₑ 22 in let s = fractionₑ 24 in
+    same-three (numeratorsₑ differenceₑ r s) (crosswiseₑ (numeratorsₑ fₑ r s) (numeratorsₑ gₑ r s)) tt (cubic f (cubic g (fraction (P .r) (fraction (P .s) []))))
+
 pub jet-difference : (C : Cell) (f g : Cubic) (P : Point) → jet C (difference f g) P ≋ jet C f P ⊟ jet C g P
-unfolding jet value byR byS difference
-jet-difference C f g P = let ρ = cubic f (cubic g (fraction (P .r) (fraction (P .s) []))) in let r = fractionₑ 22 in let s = fractionₑ 24 in record {
-  heights = value-difference f g P;
-  xSlopes = record {
-    crossed = equal (valueₑ (byRₑ differenceₑ) r s ÷ₑ var 26) (valueₑ (byRₑ fₑ) r s ÷ₑ var 26 -ₑ valueₑ (byRₑ gₑ) r s ÷ₑ var 26) tt
-        (cubic f (cubic g (fraction (P .r) (fraction (P .s) (pos (C .W .number) ∷ [])))));
-  };
-  ySlopes = record {
-    crossed = equal (valueₑ (bySₑ differenceₑ) r s ÷ₑ var 26) (valueₑ (bySₑ fₑ) r s ÷ₑ var 26 -ₑ valueₑ (bySₑ gₑ) r s ÷ₑ var 26) tt
-        (cubic f (cubic g (fraction (P .r) (fraction (P .s) (pos (C .H .number) ∷ [])))));
-  };
+unfolding jet numeratorsAt byR byS difference
+jet-difference C f g P = let e = numerators-difference f g P in record {
+  heights = minus (difference f g) f g P refl (ap (λ j. j .height) e);
+  xSlopes = ≈-÷-minus (C .W) (value (byR f) P) (value (byR g) P) (minus (byR (difference f g)) (byR f) (byR g) P refl (ap (λ j. j .xSlope) e));
+  ySlopes = ≈-÷-minus (C .H) (value (byS f) P) (value (byS g) P) (minus (byS (difference f g)) (byS f) (byS g) P refl (ap (λ j. j .ySlope) e));
 }
 
 -- ---- square terms
@@ -149,15 +167,11 @@ is-blank f z = λ i. record {
 }
 
 abbrev blankₑ : Cubicₑ
-blankₑ = record { c00 = # 0; c10 = # 0; c01 = # 0; c20 = # 0; c11 = # 0; c02 = # 0; c30 = # 0; c21 = # 0; c12 = # 0; c03 = # 0; divisor = var 0 }
-
-abbrev pub noneₑ : Jetₑ
-noneₑ = record { height = wholeₑ (# 0); xSlope = wholeₑ (# 0); ySlope = wholeₑ (# 0) }
+blankₑ = record { c00 = # 0; c10 = # 0; c01 = # 0; c20 = # 0; c11 = # 0; c02 = # 0; c30 = # 0; c21 = # 0; c12 = # 0; c03 = # 0; divisor = # 1 }
 
 blank-jet : (C : Cell) (f : Cubic) (P : Point) → jet C (blank f) P ≋ none
-unfolding jet value byR byS none
-blank-jet C f P = jets (decided (jetₑ (var 1) (var 2) blankₑ (fractionₑ 3) (fractionₑ 5)) noneₑ tt
-    (pos (f .divisor .number) ∷ pos (C .W .number) ∷ pos (C .H .number) ∷ fraction (P .r) (fraction (P .s) [])))
+unfolding numeratorsAt numerator byR byS
+blank-jet C f P = none-at C (blank f) P (same-three (numeratorsₑ blankₑ (fractionₑ 0) (fractionₑ 2)) flatₑ tt (fraction (P .r) (fraction (P .s) [])))
 
 pub zero-jet : (C : Cell) (f : Cubic) → Zero f → (P : Point) → jet C f P ≋ none
 zero-jet C f z P = subst (λ g. jet C g P ≋ none) (sym (is-blank f z)) (blank-jet C f P)

@@ -1,15 +1,20 @@
 -- A cubic's value over one denominator: at (a/p, b/q) it is Σ cᵢⱼ aⁱ p³⁻ⁱ bʲ q³⁻ʲ over divisor · p³ q³. Assumes nothing.
-use mathlib.Core.Path.{_≡_, ap}
-use mathlib.Core.List.{[], _∷_}
-use lib.IntN.{ℤ, pos, _+ℤ_, _*ℤ_}
-use Rattle.sibson.specs.Fraction.{Positive, ℚ, _≈_, _*⁺_, _·ℚ_, whole}
-use Rattle.sibson.specs.Cubic.{Point, Cubic, value}
-use Rattle.integers.proofs.Polynomial.{Expr, #_, _⊕_, _⊗_}
-use Rattle.integers.proofs.Solve.{_≐_, solve}
-use Rattle.integers.proofs.Deduce.{_·_, _⊨_, deduce}
+use mathlib.Core.Path.{_≡_, refl, sym, _∙_, ap}
+use mathlib.Core.Bool.{Bool, _&&_}
+use mathlib.Core.List.{List, [], _∷_}
+use Prim.Native.Nat.{_*_}
+use lib.Dec.{T}
+use lib.IntN.{ℤ, pos, _+ℤ_, _*ℤ_, zero-*ℤ}
+use Rattle.sibson.specs.Fraction.{Positive, ℚ, _≈_, _*⁺_, _·ℚ_, _÷_, whole}
+use Rattle.sibson.specs.Cubic.{Cell, Point, Cubic, value, byR, byS, Jet, jet, _≋_}
+use Rattle.sibson.specs.Theorems.{perPixel}
+use Rattle.integers.proofs.Polynomial.{Expr, #_, _⊕_, _⊗_, ⊖_, eval}
+use Rattle.integers.proofs.Solve.{_≐_, same, same-sound}
+use Rattle.integers.proofs.Deduce.{_·_, _⊨_, deduce, both}
 use Rattle.integers.proofs.Order.{*ℤ-cancel-r}
-use Rattle.sibson.proofs.Fractions.{≈-sym, ≈-trans, ≈-·}
-use Rattle.sibson.proofs.Quote.{Quotient, _/ₑ_, Cubicₑ, valueₑ, equal, anyₑ, rₑ, sₑ, any}
+use Rattle.sibson.proofs.Fractions.{≈-refl, ≈-sym, ≈-trans, ≈-·, ≈-÷, ≈-÷-none}
+use Rattle.sibson.proofs.Jets.{none, ≋-trans}
+use Rattle.sibson.proofs.Quote.{Quotient, _/ₑ_, Cubicₑ, valueₑ, byRₑ, bySₑ, equal, anyₑ, rₑ, sₑ, any}
 
 unfoldable pub numerator : Cubic → Point → ℤ
 numerator f P = let a = P .r .numerator in let p = pos (P .r .denominator .number) in let b = P .s .numerator in let q = pos (P .s .denominator .number) in
@@ -28,22 +33,23 @@ numeratorₑ f r s = let a = r .num in let p = r .den in let b = s .num in let q
     ⊕ f .c30 ⊗ (a ⊗ a ⊗ a ⊗ (q ⊗ q ⊗ q)) ⊕ f .c21 ⊗ (a ⊗ a ⊗ p ⊗ (b ⊗ q ⊗ q)) ⊕ f .c12 ⊗ (a ⊗ p ⊗ p ⊗ (b ⊗ b ⊗ q))
     ⊕ f .c03 ⊗ (p ⊗ p ⊗ p ⊗ (b ⊗ b ⊗ b))
 
-abbrev over : ℤ → Positive → ℚ
-over z n = record { numerator = z; denominator = n }
+abbrev pub common : Cubic → Point → ℚ
+common f P = record { numerator = numerator f P; denominator = f .divisor *⁺ cubes P }
 
-pub value-is : (f : Cubic) (P : Point) → value f P ≈ over (numerator f P) (f .divisor *⁺ cubes P)
+abbrev pub commonₑ : Cubicₑ → Quotient → Quotient → Quotient
+commonₑ f r s = let p = r .den in let q = s .den in numeratorₑ f r s /ₑ (f .divisor ⊗ (p ⊗ p ⊗ p ⊗ (q ⊗ q ⊗ q)))
+
+pub value-is : (f : Cubic) (P : Point) → value f P ≈ common f P
 unfolding value numerator cubes
 value-is f P = record {
-  crossed = equal (valueₑ anyₑ rₑ sₑ) (numeratorₑ anyₑ rₑ sₑ /ₑ (anyₑ .divisor ⊗ (rₑ .den ⊗ rₑ .den ⊗ rₑ .den ⊗ (sₑ .den ⊗ sₑ .den ⊗ sₑ .den)))) tt (any f P []);
+  crossed = equal (valueₑ anyₑ rₑ sₑ) (commonₑ anyₑ rₑ sₑ) tt (any f P []);
 }
 
 -- ---- from fractions to whole numbers, and back
 
 pub vanishes : (f : Cubic) (P : Point) → value f P ≈ whole (pos 0) → numerator f P ≡ pos 0
-vanishes f P e = ap-one (≈-trans {y = value f P} (≈-sym (value-is f P)) e)
-  where
-    ap-one : {z : ℤ} {n : Positive} → over z n ≈ whole (pos 0) → z ≡ pos 0
-    ap-one {z} {n} h = deduce 2 (λ z n. (# 1 · (z ⊗ # 1 ≐ # 0 ⊗ n)) ∷ [] ⊨ z ≐ # 0) tt z (pos (n .number)) (h .crossed)
+vanishes f P e = deduce 2 (λ z n. (# 1 · (z ⊗ # 1 ≐ # 0 ⊗ n)) ∷ [] ⊨ z ≐ # 0) tt (numerator f P) (pos (common f P .denominator .number))
+    (≈-trans {y = value f P} (≈-sym (value-is f P)) e .crossed)
 
 -- a value that is c times another: the same of the numerators, each times the other's divisor
 pub numerators : (f g : Cubic) (P Q : Point) (c : ℤ) → cubes P .number ≡ cubes Q .number → value f P ≈ c ·ℚ value g Q →
@@ -52,3 +58,74 @@ numerators f g P Q c e h = *ℤ-cancel-r (cubes P .number) (cubes P .above)
     (deduce 7 (λ x y c d d′ n n′. (# 1 · (x ⊗ (d′ ⊗ n′) ≐ c ⊗ y ⊗ (d ⊗ n))) ∷ (x ⊗ d′ · (n ≐ n′)) ∷ [] ⊨ x ⊗ d′ ⊗ n ≐ c ⊗ y ⊗ d ⊗ n) tt
     (numerator f P) (numerator g Q) c (pos (f .divisor .number)) (pos (g .divisor .number)) (pos (cubes P .number)) (pos (cubes Q .number))
     (≈-trans {y = value f P} (≈-sym (value-is f P)) (≈-trans {y = c ·ℚ value g Q} h (≈-· c (value-is g Q))) .crossed) (ap pos e))
+
+pub by-numerator : (f g : Cubic) (P Q : Point) → f .divisor .number ≡ g .divisor .number → cubes P .number ≡ cubes Q .number → numerator f P ≡ numerator g Q → value f P ≈ value g Q
+by-numerator f g P Q d n e = ≈-trans {y = common f P} (value-is f P)
+    (≈-trans {y = common g Q} (record { crossed = crossed }) (≈-sym (value-is g Q)))
+  where
+    crossed : numerator f P *ℤ pos (g .divisor .number * cubes Q .number) ≡ numerator g Q *ℤ pos (f .divisor .number * cubes P .number)
+    crossed = deduce 6 (λ x y d d′ n n′. (d′ ⊗ n′ · (x ≐ y)) ∷ (⊖ (y ⊗ n′) · (d ≐ d′)) ∷ (⊖ (y ⊗ d) · (n ≐ n′)) ∷ [] ⊨ x ⊗ (d′ ⊗ n′) ≐ y ⊗ (d ⊗ n)) tt
+        (numerator f P) (numerator g Q) (pos (f .divisor .number)) (pos (g .divisor .number)) (pos (cubes P .number)) (pos (cubes Q .number)) e (ap pos d) (ap pos n)
+
+-- ---- heights and slopes by their numerators
+
+unfoldable pub numeratorsAt : Cubic → Point → Jet ℤ
+numeratorsAt f P = record { height = numerator f P; xSlope = numerator (byR f) P; ySlope = numerator (byS f) P }
+
+pub by-numerators : (C : Cell) (f g : Cubic) (P : Point) → f .divisor .number ≡ g .divisor .number → numeratorsAt f P ≡ numeratorsAt g P → jet C f P ≋ jet C g P
+unfolding jet numeratorsAt byR byS
+by-numerators C f g P d e = record {
+  heights = by-numerator f g P P d refl (ap (λ j. j .height) e);
+  xSlopes = ≈-÷ (C .W) (by-numerator (byR f) (byR g) P P d refl (ap (λ j. j .xSlope) e));
+  ySlopes = ≈-÷ (C .H) (by-numerator (byS f) (byS g) P P d refl (ap (λ j. j .ySlope) e));
+}
+
+-- whole heights and slopes
+abbrev pub times : ℤ → Jet ℤ → Jet ℤ
+times k n = record { height = n .height *ℤ k; xSlope = n .xSlope *ℤ k; ySlope = n .ySlope *ℤ k }
+
+pub by-numbers : (C : Cell) (f : Cubic) (P : Point) (n : Jet ℤ) → numeratorsAt f P ≡ times (pos (f .divisor .number * cubes P .number)) n → jet C f P ≋ perPixel C n
+unfolding jet numeratorsAt perPixel byR byS
+by-numbers C f P n e = record {
+  heights = is f (n .height) refl (ap (λ j. j .height) e);
+  xSlopes = ≈-÷ (C .W) (is (byR f) (n .xSlope) refl (ap (λ j. j .xSlope) e));
+  ySlopes = ≈-÷ (C .H) (is (byS f) (n .ySlope) refl (ap (λ j. j .ySlope) e));
+}
+  where
+    is : (g : Cubic) (z : ℤ) → g .divisor .number ≡ f .divisor .number → numerator g P ≡ z *ℤ pos (f .divisor .number * cubes P .number) → value g P ≈ whole z
+    is g z d e = ≈-trans {y = common g P} (value-is g P) (record {
+      crossed = deduce 5 (λ x z d d′ n. (# 1 · (x ≐ z ⊗ (d′ ⊗ n))) ∷ (⊖ (z ⊗ n) · (d ≐ d′)) ∷ [] ⊨ x ⊗ # 1 ≐ z ⊗ (d ⊗ n)) tt
+          (numerator g P) z (pos (g .divisor .number)) (pos (f .divisor .number)) (pos (cubes P .number)) e (ap pos d);
+    })
+
+-- nothing
+abbrev pub flat : Jet ℤ
+flat = record { height = pos 0; xSlope = pos 0; ySlope = pos 0 }
+
+pub none-at : (C : Cell) (f : Cubic) (P : Point) → numeratorsAt f P ≡ flat → jet C f P ≋ none
+unfolding none perPixel
+none-at C f P e = ≋-trans {j = jet C f P} {k = perPixel C flat} {l = none} (by-numbers C f P flat (e ∙ flat-times))
+    (record { heights = ≈-refl (whole (pos 0)); xSlopes = ≈-÷-none (C .W); ySlopes = ≈-÷-none (C .H) })
+  where
+    flat-times : flat ≡ times (pos (f .divisor .number * cubes P .number)) flat
+    flat-times = λ i. let z = sym (zero-*ℤ (pos (f .divisor .number * cubes P .number))) in record { height = z i; xSlope = z i; ySlope = z i }
+
+-- ---- the same, quoted and decided
+
+abbrev pub numeratorsₑ : Cubicₑ → Quotient → Quotient → Jet Expr
+numeratorsₑ f r s = record { height = numeratorₑ f r s; xSlope = numeratorₑ (byRₑ f) r s; ySlope = numeratorₑ (bySₑ f) r s }
+
+abbrev pub flatₑ : Jet Expr
+flatₑ = record { height = # 0; xSlope = # 0; ySlope = # 0 }
+
+abbrev pub three : List ℤ → Jet Expr → Jet ℤ
+three ρ a = record { height = eval ρ (a .height); xSlope = eval ρ (a .xSlope); ySlope = eval ρ (a .ySlope) }
+
+abbrev pub sameThree : Jet Expr → Jet Expr → Bool
+sameThree a b = same (a .height) (b .height) && (same (a .xSlope) (b .xSlope) && same (a .ySlope) (b .ySlope))
+
+pub same-three : (a b : Jet Expr) → T (sameThree a b) → (ρ : List ℤ) → three ρ a ≡ three ρ b
+same-three a b t ρ =
+    let (h, u) = both (same (a .height) (b .height)) (same (a .xSlope) (b .xSlope) && same (a .ySlope) (b .ySlope)) t in
+    let (x, y) = both (same (a .xSlope) (b .xSlope)) (same (a .ySlope) (b .ySlope)) u in
+    λ i. record { height = same-sound (a .height) (b .height) h ρ i; xSlope = same-sound (a .xSlope) (b .xSlope) x ρ i; ySlope = same-sound (a .ySlope) (b .ySlope) y ρ i }

@@ -1,19 +1,20 @@
 -- The set we read from meets the conditions and has the corner numbers. Assumes nothing.
-use mathlib.Core.Path.{_≡_}
+use mathlib.Core.Path.{_≡_, refl}
 use lib.Dec.{T}
 use lib.IntN.{ℤ, pos}
 use Rattle.sibson.specs.Fraction.{ℚ, _≈_, whole, _÷_, complement}
-use Rattle.sibson.specs.Cubic.{Cell, Point, value, byR, byS, jet, _≋_}
+use Rattle.sibson.specs.Cubic.{Cell, Point, byR, byS, Jet, jet, _≋_}
 use Rattle.sibson.specs.Piece.{Piece, top, right, bottom, left, next, triangle, HalfDiagonal, Corner, leftTop, rightTop, leftBottom, rightBottom, at}
 use Rattle.sibson.specs.Conditions.{Meets, Smooth, squareTerm, squareInR, squareInS}
 use Rattle.sibson.specs.Element.{Corners, cornerNumbers, inOrder, column, weights, weighed, halved, transposed, flipped, mirrored, swap, negateX, negateY, exchanged, topDown, leftRight, onTop, onLeft, sibson, surface}
 use Rattle.sibson.specs.Theorems.{Has, perPixel, ofNode}
-use Rattle.integers.proofs.Polynomial.{#_, _⊗_}
+use Rattle.integers.proofs.Polynomial.{Expr, #_, _⊗_}
 use Rattle.integers.proofs.Solve.{same-sound, solve, _≐_}
 use Rattle.sibson.proofs.Fractions.{≈-refl, ≈-sym}
 use Rattle.sibson.proofs.Jets.{_≈ₚ_, jet-at, ≋-sym, ≋-trans}
-use Rattle.sibson.proofs.Quote.{Quotient, wholeₑ, _-ₑ_, _÷ₑ_, Cubicₑ, Jetₑ, jetₑ, squareₑ, decided, jets}
-use Rattle.sibson.proofs.QuoteElement.{sibsonₑ, numbersₑ, Wₑ, Hₑ, tₑ, given}
+use Rattle.sibson.proofs.Quote.{wholeₑ, _-ₑ_, Cubicₑ, squareₑ}
+use Rattle.sibson.proofs.Evaluate.{numerator, cubes, numeratorsAt, by-numerators, by-numbers, numeratorsₑ, same-three}
+use Rattle.sibson.proofs.QuoteElement.{sibsonₑ, numbersₑ, tₑ, given}
 
 -- ---- the half diagonals
 
@@ -25,18 +26,18 @@ onLine bottom s = record { r = complement s; s = s }
 onLine left s = record { r = s; s = s }
 
 -- a cubic at it
-abbrev pub onLineₑ : Piece → Cubicₑ → Jetₑ
-onLineₑ top f = jetₑ Wₑ Hₑ f (wholeₑ (# 1) -ₑ tₑ) tₑ
-onLineₑ right f = jetₑ Wₑ Hₑ f tₑ tₑ
-onLineₑ bottom f = jetₑ Wₑ Hₑ f (wholeₑ (# 1) -ₑ tₑ) tₑ
-onLineₑ left f = jetₑ Wₑ Hₑ f tₑ tₑ
+abbrev pub onLineₑ : Piece → Cubicₑ → Jet Expr
+onLineₑ top f = numeratorsₑ f (wholeₑ (# 1) -ₑ tₑ) tₑ
+onLineₑ right f = numeratorsₑ f tₑ tₑ
+onLineₑ bottom f = numeratorsₑ f (wholeₑ (# 1) -ₑ tₑ) tₑ
+onLineₑ left f = numeratorsₑ f tₑ tₑ
 
 lines-agree : (C : Cell) (n : Corners) (k : Piece) (s : ℚ) → jet C (sibson n k) (onLine k s) ≋ jet C (sibson n (next k)) (onLine k s)
-unfolding jet value byR byS inOrder column weights weighed halved transposed flipped mirrored swap negateX negateY exchanged topDown leftRight onTop onLeft sibson next
-lines-agree C n top s = jets (decided (onLineₑ top (sibsonₑ numbersₑ top)) (onLineₑ top (sibsonₑ numbersₑ right)) tt (given C s n))
-lines-agree C n right s = jets (decided (onLineₑ right (sibsonₑ numbersₑ right)) (onLineₑ right (sibsonₑ numbersₑ bottom)) tt (given C s n))
-lines-agree C n bottom s = jets (decided (onLineₑ bottom (sibsonₑ numbersₑ bottom)) (onLineₑ bottom (sibsonₑ numbersₑ left)) tt (given C s n))
-lines-agree C n left s = jets (decided (onLineₑ left (sibsonₑ numbersₑ left)) (onLineₑ left (sibsonₑ numbersₑ top)) tt (given C s n))
+unfolding numeratorsAt numerator byR byS inOrder column weights weighed halved transposed flipped mirrored swap negateX negateY exchanged topDown leftRight onTop onLeft sibson next
+lines-agree C n top s = by-numerators C (sibson n top) (sibson n right) (onLine top s) refl (same-three (onLineₑ top (sibsonₑ numbersₑ top)) (onLineₑ top (sibsonₑ numbersₑ right)) tt (given C s n))
+lines-agree C n right s = by-numerators C (sibson n right) (sibson n bottom) (onLine right s) refl (same-three (onLineₑ right (sibsonₑ numbersₑ right)) (onLineₑ right (sibsonₑ numbersₑ bottom)) tt (given C s n))
+lines-agree C n bottom s = by-numerators C (sibson n bottom) (sibson n left) (onLine bottom s) refl (same-three (onLineₑ bottom (sibsonₑ numbersₑ bottom)) (onLineₑ bottom (sibsonₑ numbersₑ left)) tt (given C s n))
+lines-agree C n left s = by-numerators C (sibson n left) (sibson n top) (onLine left s) refl (same-three (onLineₑ left (sibsonₑ numbersₑ left)) (onLineₑ left (sibsonₑ numbersₑ top)) tt (given C s n))
 
 -- a point of a half diagonal lies on its line
 pub on-line : (k : Piece) (P : Point) → HalfDiagonal k P → P ≈ₚ onLine k (P .s)
@@ -67,25 +68,25 @@ meets C n = record { smooth = smooth C n; linear = no-square C n }
 
 -- ---- the corners
 
-abbrev pub atₑ : Corner → Cubicₑ → Jetₑ
-atₑ leftTop f = jetₑ Wₑ Hₑ f (wholeₑ (# 0)) (wholeₑ (# 0))
-atₑ rightTop f = jetₑ Wₑ Hₑ f (wholeₑ (# 1)) (wholeₑ (# 0))
-atₑ leftBottom f = jetₑ Wₑ Hₑ f (wholeₑ (# 0)) (wholeₑ (# 1))
-atₑ rightBottom f = jetₑ Wₑ Hₑ f (wholeₑ (# 1)) (wholeₑ (# 1))
+abbrev pub atₑ : Corner → Cubicₑ → Jet Expr
+atₑ leftTop f = numeratorsₑ f (wholeₑ (# 0)) (wholeₑ (# 0))
+atₑ rightTop f = numeratorsₑ f (wholeₑ (# 1)) (wholeₑ (# 0))
+atₑ leftBottom f = numeratorsₑ f (wholeₑ (# 0)) (wholeₑ (# 1))
+atₑ rightBottom f = numeratorsₑ f (wholeₑ (# 1)) (wholeₑ (# 1))
 
-abbrev numberₑ : Corner → Jetₑ
-numberₑ c = record { height = wholeₑ (numbersₑ c .height); xSlope = wholeₑ (numbersₑ c .xSlope) ÷ₑ Wₑ; ySlope = wholeₑ (numbersₑ c .ySlope) ÷ₑ Hₑ }
+abbrev twiceₑ : Jet Expr → Jet Expr
+twiceₑ n = record { height = n .height ⊗ # 2; xSlope = n .xSlope ⊗ # 2; ySlope = n .ySlope ⊗ # 2 }
 
 pub numbers : (C : Cell) (n : Corners) → Has C (sibson n) (λ c. perPixel C (n c))
-unfolding Has perPixel jet value byR byS inOrder column weights weighed halved transposed flipped mirrored swap negateX negateY exchanged topDown leftRight onTop onLeft sibson
-numbers C n top leftTop t = jets (decided (atₑ leftTop (sibsonₑ numbersₑ top)) (numberₑ leftTop) tt (given C (whole (pos 0)) n))
-numbers C n top rightTop t = jets (decided (atₑ rightTop (sibsonₑ numbersₑ top)) (numberₑ rightTop) tt (given C (whole (pos 0)) n))
-numbers C n right rightTop t = jets (decided (atₑ rightTop (sibsonₑ numbersₑ right)) (numberₑ rightTop) tt (given C (whole (pos 0)) n))
-numbers C n right rightBottom t = jets (decided (atₑ rightBottom (sibsonₑ numbersₑ right)) (numberₑ rightBottom) tt (given C (whole (pos 0)) n))
-numbers C n bottom rightBottom t = jets (decided (atₑ rightBottom (sibsonₑ numbersₑ bottom)) (numberₑ rightBottom) tt (given C (whole (pos 0)) n))
-numbers C n bottom leftBottom t = jets (decided (atₑ leftBottom (sibsonₑ numbersₑ bottom)) (numberₑ leftBottom) tt (given C (whole (pos 0)) n))
-numbers C n left leftBottom t = jets (decided (atₑ leftBottom (sibsonₑ numbersₑ left)) (numberₑ leftBottom) tt (given C (whole (pos 0)) n))
-numbers C n left leftTop t = jets (decided (atₑ leftTop (sibsonₑ numbersₑ left)) (numberₑ leftTop) tt (given C (whole (pos 0)) n))
+unfolding Has numeratorsAt numerator cubes byR byS inOrder column weights weighed halved transposed flipped mirrored swap negateX negateY exchanged topDown leftRight onTop onLeft sibson
+numbers C n top leftTop t = by-numbers C (sibson n top) (at leftTop) (n leftTop) (same-three (atₑ leftTop (sibsonₑ numbersₑ top)) (twiceₑ (numbersₑ leftTop)) tt (given C (whole (pos 0)) n))
+numbers C n top rightTop t = by-numbers C (sibson n top) (at rightTop) (n rightTop) (same-three (atₑ rightTop (sibsonₑ numbersₑ top)) (twiceₑ (numbersₑ rightTop)) tt (given C (whole (pos 0)) n))
+numbers C n right rightTop t = by-numbers C (sibson n right) (at rightTop) (n rightTop) (same-three (atₑ rightTop (sibsonₑ numbersₑ right)) (twiceₑ (numbersₑ rightTop)) tt (given C (whole (pos 0)) n))
+numbers C n right rightBottom t = by-numbers C (sibson n right) (at rightBottom) (n rightBottom) (same-three (atₑ rightBottom (sibsonₑ numbersₑ right)) (twiceₑ (numbersₑ rightBottom)) tt (given C (whole (pos 0)) n))
+numbers C n bottom rightBottom t = by-numbers C (sibson n bottom) (at rightBottom) (n rightBottom) (same-three (atₑ rightBottom (sibsonₑ numbersₑ bottom)) (twiceₑ (numbersₑ rightBottom)) tt (given C (whole (pos 0)) n))
+numbers C n bottom leftBottom t = by-numbers C (sibson n bottom) (at leftBottom) (n leftBottom) (same-three (atₑ leftBottom (sibsonₑ numbersₑ bottom)) (twiceₑ (numbersₑ leftBottom)) tt (given C (whole (pos 0)) n))
+numbers C n left leftBottom t = by-numbers C (sibson n left) (at leftBottom) (n leftBottom) (same-three (atₑ leftBottom (sibsonₑ numbersₑ left)) (twiceₑ (numbersₑ leftBottom)) tt (given C (whole (pos 0)) n))
+numbers C n left leftTop t = by-numbers C (sibson n left) (at leftTop) (n leftTop) (same-three (atₑ leftTop (sibsonₑ numbersₑ left)) (twiceₑ (numbersₑ leftTop)) tt (given C (whole (pos 0)) n))
 numbers C n top leftBottom t = absurd t
 numbers C n top rightBottom t = absurd t
 numbers C n right leftTop t = absurd t

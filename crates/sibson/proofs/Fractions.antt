@@ -77,6 +77,12 @@ pub ≈-of-minus : {x y : ℚ} → x -ℚ y ≈ whole (pos 0) → x ≈ y
       (x .numerator) (pos (x .denominator .number)) (y .numerator) (pos (y .denominator .number)) (e .crossed);
 }
 
+pub ≈-÷-minus : (n : Positive) {x : ℚ} (y z : ℚ) → x ≈ y -ℚ z → x ÷ n ≈ y ÷ n -ℚ z ÷ n
+≈-÷-minus n y z e = ≈-trans {y = (y -ℚ z) ÷ n} (≈-÷ n e) (record {
+  crossed = solve 5 (λ a p b q n. (a ⊗ q ⊕ ⊖ # 1 ⊗ b ⊗ p) ⊗ (p ⊗ n ⊗ (q ⊗ n)) ≐ (a ⊗ (q ⊗ n) ⊕ ⊖ # 1 ⊗ b ⊗ (p ⊗ n)) ⊗ (p ⊗ q ⊗ n)) tt
+      (y .numerator) (pos (y .denominator .number)) (z .numerator) (pos (z .denominator .number)) (pos (n .number));
+})
+
 -- the same divisor cancels
 pub ≈-÷-cancel : (n : Positive) {x y : ℚ} → x ÷ n ≈ y ÷ n → x ≈ y
 ≈-÷-cancel n {x} {y} e = record {
@@ -89,6 +95,9 @@ pub ≈-÷-zero : (n : Positive) {x : ℚ} → x ÷ n ≈ whole (pos 0) → x �
 ≈-÷-zero n {x} e = record {
   crossed = deduce 3 (λ a p n. (# 1 · (a ⊗ # 1 ≐ # 0 ⊗ (p ⊗ n))) ∷ [] ⊨ a ⊗ # 1 ≐ # 0 ⊗ p) tt (x .numerator) (pos (x .denominator .number)) (pos (n .number)) (e .crossed);
 }
+
+pub ≈-÷-none : (n : Positive) → whole (pos 0) ÷ n ≈ whole (pos 0)
+≈-÷-none n = record { crossed = solve 1 (λ n. # 0 ⊗ # 1 ≐ # 0 ⊗ (# 1 ⊗ n)) tt (pos (n .number)) }
 
 pub ≈-complement : {x y : ℚ} → x ≈ y → complement x ≈ complement y
 ≈-complement e = ≈-- (≈-refl (whole (pos 1))) e

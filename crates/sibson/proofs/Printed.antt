@@ -1,39 +1,66 @@
 -- The set we read from is the source's formulas. Assumes nothing.
-use mathlib.Core.Path.{refl}
-use mathlib.Core.List.{List, _∷_}
+use mathlib.Core.Path.{_≡_, refl}
+use mathlib.Core.List.{List}
 use lib.IntN.{ℤ, pos}
-use Rattle.sibson.specs.Fraction.{_≈_}
+use Rattle.sibson.specs.Fraction.{_≈_, complement}
 use Rattle.sibson.specs.Cubic.{Point, value}
 use Rattle.sibson.specs.Piece.{Piece, top, right, bottom, left}
 use Rattle.sibson.specs.Element.{Corners, inOrder, column, weights, weighed, halved, transposed, flipped, mirrored, swap, negateX, negateY, exchanged, topDown, leftRight, onTop, onLeft, sibson}
 use Rattle.sibson.specs.Source.{formula, row, table, source, Sources}
-use Rattle.integers.proofs.Polynomial.{var, #_}
-use Rattle.sibson.proofs.Quote.{Quotient, _/ₑ_, wholeₑ, _-ₑ_, valueₑ, equal}
+use Rattle.integers.proofs.Polynomial.{Expr, #_, _⊗_}
+use Rattle.integers.proofs.Solve.{_≐_, same-sound, solve}
+use Rattle.integers.proofs.Order.{pos-inj}
+use Rattle.sibson.proofs.Quote.{Quotient, fractionₑ, fraction, wholeₑ, _-ₑ_}
+use Rattle.sibson.proofs.Evaluate.{numerator, cubes, by-numerator, numeratorₑ}
 use Rattle.sibson.proofs.QuoteElement.{halvedₑ, sibsonₑ, numbersₑ}
 
 -- ---- variables: 0 / 1 is r, 2 / 3 is s, from 4 on the twelve numbers
 
 abbrev rₑ : Quotient
-rₑ = var 0 /ₑ var 1
+rₑ = fractionₑ 0
 
 abbrev sₑ : Quotient
-sₑ = var 2 /ₑ var 3
+sₑ = fractionₑ 2
 
 abbrev given : Point → Corners → List ℤ
-given P n = P .r .numerator ∷ pos (P .r .denominator .number) ∷ P .s .numerator ∷ pos (P .s .denominator .number) ∷ inOrder n
+given P n = fraction (P .r) (fraction (P .s) (inOrder n))
 
-abbrev printedₑ : Piece → Quotient
-printedₑ top = valueₑ (halvedₑ (table top) numbersₑ) rₑ sₑ
-printedₑ right = valueₑ (halvedₑ (table right) numbersₑ) (wholeₑ (# 1) -ₑ rₑ) (wholeₑ (# 1) -ₑ sₑ)
-printedₑ bottom = valueₑ (halvedₑ (table bottom) numbersₑ) (wholeₑ (# 1) -ₑ rₑ) (wholeₑ (# 1) -ₑ sₑ)
-printedₑ left = valueₑ (halvedₑ (table left) numbersₑ) rₑ sₑ
+abbrev printedₑ : Piece → Expr
+printedₑ top = numeratorₑ (halvedₑ (table top) numbersₑ) rₑ sₑ
+printedₑ right = numeratorₑ (halvedₑ (table right) numbersₑ) (wholeₑ (# 1) -ₑ rₑ) (wholeₑ (# 1) -ₑ sₑ)
+printedₑ bottom = numeratorₑ (halvedₑ (table bottom) numbersₑ) (wholeₑ (# 1) -ₑ rₑ) (wholeₑ (# 1) -ₑ sₑ)
+printedₑ left = numeratorₑ (halvedₑ (table left) numbersₑ) rₑ sₑ
+
+numerators : (k : Piece) (n : Corners) (P : Point) → numerator (sibson n k) P ≡ numerator (halved (table k) n) (source k P)
+unfolding numerator inOrder column weights weighed halved transposed flipped mirrored swap negateX negateY exchanged topDown leftRight onTop onLeft sibson formula row table source
+numerators top n P = same-sound (numeratorₑ (sibsonₑ numbersₑ top) rₑ sₑ) (printedₑ top) tt (given P n)
+numerators right n P = same-sound (numeratorₑ (sibsonₑ numbersₑ right) rₑ sₑ) (printedₑ right) tt (given P n)
+numerators bottom n P = same-sound (numeratorₑ (sibsonₑ numbersₑ bottom) rₑ sₑ) (printedₑ bottom) tt (given P n)
+numerators left n P = same-sound (numeratorₑ (sibsonₑ numbersₑ left) rₑ sₑ) (printedₑ left) tt (given P n)
+
+-- the point and its complement have one denominator
+complement-cubes : (P : Point) → cubes P .number ≡ cubes (record { r = complement (P .r); s = complement (P .s) }) .number
+unfolding cubes
+complement-cubes P = pos-inj (solve 2 (λ p q. p ⊗ p ⊗ p ⊗ (q ⊗ q ⊗ q) ≐ (# 1 ⊗ p) ⊗ (# 1 ⊗ p) ⊗ (# 1 ⊗ p) ⊗ ((# 1 ⊗ q) ⊗ (# 1 ⊗ q) ⊗ (# 1 ⊗ q))) tt
+    (pos (P .r .denominator .number)) (pos (P .s .denominator .number)))
+
+source-cubes : (k : Piece) (P : Point) → cubes P .number ≡ cubes (source k P) .number
+unfolding source
+source-cubes top P = refl
+source-cubes right P = complement-cubes P
+source-cubes bottom P = complement-cubes P
+source-cubes left P = refl
+
+halves : (k : Piece) (n : Corners) → sibson n k .divisor .number ≡ 2
+unfolding halved transposed flipped mirrored onTop onLeft sibson
+halves top n = refl
+halves right n = refl
+halves bottom n = refl
+halves left n = refl
 
 pieces : (k : Piece) (n : Corners) (P : Point) → value (sibson n k) P ≈ value (halved (table k) n) (source k P)
-unfolding value inOrder column weights weighed halved transposed flipped mirrored swap negateX negateY exchanged topDown leftRight onTop onLeft sibson formula row table source
-pieces top n P = record { crossed = equal (valueₑ (sibsonₑ numbersₑ top) rₑ sₑ) (printedₑ top) tt (given P n) }
-pieces right n P = record { crossed = equal (valueₑ (sibsonₑ numbersₑ right) rₑ sₑ) (printedₑ right) tt (given P n) }
-pieces bottom n P = record { crossed = equal (valueₑ (sibsonₑ numbersₑ bottom) rₑ sₑ) (printedₑ bottom) tt (given P n) }
-pieces left n P = record { crossed = equal (valueₑ (sibsonₑ numbersₑ left) rₑ sₑ) (printedₑ left) tt (given P n) }
+unfolding halved
+pieces k n P = by-numerator (sibson n k) (halved (table k) n) P (source k P) (halves k n) (source-cubes k P) (numerators k n P)
 
 pub sources : Sources
 unfolding weights formula row table column

@@ -137,10 +137,8 @@ squareₑ left f = byRₑ f .c02 ⊕ byRₑ f .c12 ⊗ # 0
 
 -- ---- heights and slopes
 
-pub record Jetₑ : Type 0 where
-  pub height : Quotient
-  pub xSlope : Quotient
-  pub ySlope : Quotient
+abbrev pub Jetₑ : Type 0
+Jetₑ = Jet Quotient
 
 abbrev pub jetₑ : Expr → Expr → Cubicₑ → Quotient → Quotient → Jetₑ
 jetₑ W H f r s = record { height = valueₑ f r s; xSlope = valueₑ (byRₑ f) r s ÷ₑ W; ySlope = valueₑ (bySₑ f) r s ÷ₑ H }

@@ -3,59 +3,40 @@ use mathlib.Core.List.{List, [], _∷_}
 use lib.ListN.{getD}
 use lib.IntN.{ℤ, pos}
 use Rattle.sibson.specs.Fraction.{ℚ}
-use Rattle.sibson.specs.Cubic.{Cell, Power, one, r¹, s¹, r², rs, s², r³, r²s, rs², s³}
+use Rattle.sibson.specs.Cubic.{Cell, Power, one, r¹, s¹, r², rs, s², r³, r²s, rs², s³, Jet}
 use Rattle.sibson.specs.Piece.{Piece, top, right, bottom, left, Corner, leftTop, rightTop, leftBottom, rightBottom}
-use Rattle.sibson.specs.Element.{Corners, inOrder, column, weights}
+use Rattle.sibson.specs.Element.{Corners, inOrder, column, weights, exchanged}
 use Rattle.integers.proofs.Polynomial.{Expr, var, con, #_, _⊕_, _⊗_, ⊖_}
 use Rattle.sibson.proofs.Quote.{Quotient, _/ₑ_, Cubicₑ, transposedₑ, flippedₑ}
 
-pub record Cornerₑ : Type 0 where
-  pub height : Expr
-  pub xSlope : Expr
-  pub ySlope : Expr
-
 abbrev pub Cornersₑ : Type 0
-Cornersₑ = Corner → Cornerₑ
+Cornersₑ = Corner → Jet Expr
 
 abbrev pub weighedₑ : List (List ℤ) → List Expr → Power → Expr
 weighedₑ [] ns p = # 0
 weighedₑ (row ∷ rows) [] p = # 0
 weighedₑ (row ∷ rows) (n ∷ ns) p = con (getD row (column p) (pos 0)) ⊗ n ⊕ weighedₑ rows ns p
 
-abbrev pub inOrderₑ : Cornersₑ → List Expr
-inOrderₑ n =
-    n leftTop .height ∷ n leftTop .xSlope ∷ n leftTop .ySlope ∷ n rightTop .height ∷ n rightTop .xSlope ∷ n rightTop .ySlope ∷
-    n leftBottom .height ∷ n leftBottom .xSlope ∷ n leftBottom .ySlope ∷ n rightBottom .height ∷ n rightBottom .xSlope ∷ n rightBottom .ySlope ∷ []
-
 abbrev pub halvedₑ : List (List ℤ) → Cornersₑ → Cubicₑ
 halvedₑ table n = record {
-  c00 = weighedₑ table (inOrderₑ n) one;
-  c10 = weighedₑ table (inOrderₑ n) r¹;
-  c01 = weighedₑ table (inOrderₑ n) s¹;
-  c20 = weighedₑ table (inOrderₑ n) r²;
-  c11 = weighedₑ table (inOrderₑ n) rs;
-  c02 = weighedₑ table (inOrderₑ n) s²;
-  c30 = weighedₑ table (inOrderₑ n) r³;
-  c21 = weighedₑ table (inOrderₑ n) r²s;
-  c12 = weighedₑ table (inOrderₑ n) rs²;
-  c03 = weighedₑ table (inOrderₑ n) s³;
+  c00 = weighedₑ table (inOrder n) one;
+  c10 = weighedₑ table (inOrder n) r¹;
+  c01 = weighedₑ table (inOrder n) s¹;
+  c20 = weighedₑ table (inOrder n) r²;
+  c11 = weighedₑ table (inOrder n) rs;
+  c02 = weighedₑ table (inOrder n) s²;
+  c30 = weighedₑ table (inOrder n) r³;
+  c21 = weighedₑ table (inOrder n) r²s;
+  c12 = weighedₑ table (inOrder n) rs²;
+  c03 = weighedₑ table (inOrder n) s³;
   divisor = # 2;
 }
 
-abbrev swapₑ : Cornerₑ → Cornerₑ
-swapₑ c = record { height = c .height; xSlope = c .ySlope; ySlope = c .xSlope }
-
-abbrev negateXₑ : Cornerₑ → Cornerₑ
+abbrev negateXₑ : Jet Expr → Jet Expr
 negateXₑ c = record { height = c .height; xSlope = ⊖ (c .xSlope); ySlope = c .ySlope }
 
-abbrev negateYₑ : Cornerₑ → Cornerₑ
+abbrev negateYₑ : Jet Expr → Jet Expr
 negateYₑ c = record { height = c .height; xSlope = c .xSlope; ySlope = ⊖ (c .ySlope) }
-
-abbrev exchangedₑ : Cornersₑ → Cornersₑ
-exchangedₑ n leftTop = swapₑ (n leftTop)
-exchangedₑ n rightTop = swapₑ (n leftBottom)
-exchangedₑ n leftBottom = swapₑ (n rightTop)
-exchangedₑ n rightBottom = swapₑ (n rightBottom)
 
 abbrev topDownₑ : Cornersₑ → Cornersₑ
 topDownₑ n leftTop = negateYₑ (n leftBottom)
@@ -73,7 +54,7 @@ abbrev onTopₑ : Cornersₑ → Cubicₑ
 onTopₑ n = halvedₑ weights n
 
 abbrev onLeftₑ : Cornersₑ → Cubicₑ
-onLeftₑ n = transposedₑ (onTopₑ (exchangedₑ n))
+onLeftₑ n = transposedₑ (onTopₑ (exchanged n))
 
 abbrev pub sibsonₑ : Cornersₑ → Piece → Cubicₑ
 sibsonₑ n top = onTopₑ n

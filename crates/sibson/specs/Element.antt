@@ -21,7 +21,7 @@ cornerNumbers C m c = record {
 }
 
 -- in the order of the weights' rows
-unfoldable pub inOrder : Corners → List ℤ
+unfoldable pub inOrder : {A : Type 0} → (Corner → Jet A) → List A
 inOrder n =
     n leftTop .height ∷ n leftTop .xSlope ∷ n leftTop .ySlope ∷ n rightTop .height ∷ n rightTop .xSlope ∷ n rightTop .ySlope ∷
     n leftBottom .height ∷ n leftBottom .xSlope ∷ n leftBottom .ySlope ∷ n rightBottom .height ∷ n rightBottom .xSlope ∷ n rightBottom .ySlope ∷ []
@@ -126,7 +126,7 @@ unfoldable pub mirrored : Cubic → Cubic
 mirrored f = transposed (flipped (transposed f))
 
 -- a corner's slopes exchanged or negated
-unfoldable pub swap : Jet ℤ → Jet ℤ
+unfoldable pub swap : {A : Type 0} → Jet A → Jet A
 swap c = record { height = c .height; xSlope = c .ySlope; ySlope = c .xSlope }
 
 unfoldable pub negateX : Jet ℤ → Jet ℤ
@@ -136,7 +136,7 @@ unfoldable pub negateY : Jet ℤ → Jet ℤ
 negateY c = record { height = c .height; xSlope = c .xSlope; ySlope = negℤ (c .ySlope) }
 
 -- corners 10 and 01 exchanged, x-slopes exchanged with y-slopes
-unfoldable pub exchanged : Corners → Corners
+unfoldable pub exchanged : {A : Type 0} → (Corner → Jet A) → Corner → Jet A
 exchanged n leftTop = swap (n leftTop)
 exchanged n rightTop = swap (n leftBottom)
 exchanged n leftBottom = swap (n rightTop)
