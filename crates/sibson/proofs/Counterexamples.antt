@@ -190,7 +190,7 @@ offTop left = + 0 ∷ + 0 ∷ + 0 ∷ − 3 ∷ + 0 ∷ + 0 ∷ + 2 ∷ + 3 ∷ 
 
 without-top : (C : Cell) → Witness All (Not top) C
 unfolding offTop Joins Bare squareTerm squareInR squareInS byR byS next
-without-top C = exhibit offTop C joins linear bare top s² (nonzero 3 tt)
+without-top C = exhibit {diagonals = All} {edges = Not top} offTop C joins linear bare top s² (nonzero 3 tt)
   where
     joins : (k : Piece) → All k → Joins offTop k
     joins top t = tt
@@ -231,7 +231,7 @@ besideTop left = []
 
 without-top′ : (C : Cell) → Witness (Neither left top) All C
 unfolding besideTop Joins Bare squareTerm squareInR squareInS byR byS next
-without-top′ C = exhibit besideTop C joins linear bare top s² (nonzero 1 tt)
+without-top′ C = exhibit {diagonals = Neither left top} {edges = All} besideTop C joins linear bare top s² (nonzero 1 tt)
   where
     joins : (k : Piece) → Neither left top k → Joins besideTop k
     joins top t = absurd (t .1 refl)
@@ -257,7 +257,7 @@ acrossTop left = []
 
 without-right : (C : Cell) → Witness (Neither left right) All C
 unfolding acrossTop Joins Bare squareTerm squareInR squareInS byR byS next
-without-right C = exhibit acrossTop C joins linear bare top s³ (nonzero 2 tt)
+without-right C = exhibit {diagonals = Neither left right} {edges = All} acrossTop C joins linear bare top s³ (nonzero 2 tt)
   where
     joins : (k : Piece) → Neither left right k → Joins acrossTop k
     joins top t = tt
@@ -283,7 +283,7 @@ besideLeft left = + 0 ∷ + 0 ∷ + 0 ∷ + 1 ∷ []
 
 without-bottom : (C : Cell) → Witness (Neither left bottom) All C
 unfolding besideLeft Joins Bare squareTerm squareInR squareInS byR byS next
-without-bottom C = exhibit besideLeft C joins linear bare left r² (nonzero 1 tt)
+without-bottom C = exhibit {diagonals = Neither left bottom} {edges = All} besideLeft C joins linear bare left r² (nonzero 1 tt)
   where
     joins : (k : Piece) → Neither left bottom k → Joins besideLeft k
     joins top t = tt

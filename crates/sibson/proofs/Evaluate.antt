@@ -76,8 +76,8 @@ pub by-numerators : (C : Cell) (f g : Cubic) (P : Point) → f .divisor .number 
 unfolding jet numeratorsAt byR byS
 by-numerators C f g P d e = record {
   heights = by-numerator f g P P d refl (ap (λ j. j .height) e);
-  xSlopes = ≈-÷ (C .W) (by-numerator (byR f) (byR g) P P d refl (ap (λ j. j .xSlope) e));
-  ySlopes = ≈-÷ (C .H) (by-numerator (byS f) (byS g) P P d refl (ap (λ j. j .ySlope) e));
+  xSlopes = ≈-÷ _ (by-numerator (byR f) (byR g) P P d refl (ap (λ j. j .xSlope) e));
+  ySlopes = ≈-÷ _ (by-numerator (byS f) (byS g) P P d refl (ap (λ j. j .ySlope) e));
 }
 
 -- whole heights and slopes
@@ -88,8 +88,8 @@ pub by-numbers : (C : Cell) (f : Cubic) (P : Point) (n : Jet ℤ) → numerators
 unfolding jet numeratorsAt perPixel byR byS
 by-numbers C f P n e = record {
   heights = is f (n .height) refl (ap (λ j. j .height) e);
-  xSlopes = ≈-÷ (C .W) (is (byR f) (n .xSlope) refl (ap (λ j. j .xSlope) e));
-  ySlopes = ≈-÷ (C .H) (is (byS f) (n .ySlope) refl (ap (λ j. j .ySlope) e));
+  xSlopes = ≈-÷ _ (is (byR f) (n .xSlope) refl (ap (λ j. j .xSlope) e));
+  ySlopes = ≈-÷ _ (is (byS f) (n .ySlope) refl (ap (λ j. j .ySlope) e));
 }
   where
     is : (g : Cubic) (z : ℤ) → g .divisor .number ≡ f .divisor .number → numerator g P ≡ z *ℤ pos (f .divisor .number * cubes P .number) → value g P ≈ whole z

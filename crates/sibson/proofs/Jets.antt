@@ -35,7 +35,7 @@ value-at f {P} {Q} e =
 
 pub jet-at : (C : Cell) (f : Cubic) {P Q : Point} → P ≈ₚ Q → jet C f P ≋ jet C f Q
 unfolding jet
-jet-at C f e = record { heights = value-at f e; xSlopes = ≈-÷ (C .W) (value-at (byR f) e); ySlopes = ≈-÷ (C .H) (value-at (byS f) e) }
+jet-at C f e = record { heights = value-at f e; xSlopes = ≈-÷ _ (value-at (byR f) e); ySlopes = ≈-÷ _ (value-at (byS f) e) }
 
 -- ---- differences
 

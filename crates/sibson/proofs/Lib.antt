@@ -4,7 +4,7 @@ pub mod Jets
 pub mod Evaluate
 pub mod QuoteElement
 pub mod Exists
-pub mod AlongEdges
+pub mod SharedEdges
 pub mod Derivatives
 pub mod Turnings
 pub mod Linearity

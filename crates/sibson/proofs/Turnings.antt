@@ -5,6 +5,7 @@ use Rattle.sibson.specs.Cubic.{Point, Cubic, value}
 use Rattle.sibson.specs.Element.{transposed, flipped, mirrored, exchanged, topDown, leftRight, onTop, onLeft, sibson}
 use Rattle.sibson.specs.Sense.{Turnings}
 use Rattle.integers.proofs.Polynomial.{#_}
+use Rattle.sibson.proofs.Fractions.{≈-trans}
 use Rattle.sibson.proofs.Quote.{wholeₑ, _-ₑ_, valueₑ, transposedₑ, flippedₑ, equal, anyₑ, rₑ, sₑ, any}
 
 transposing : (f : Cubic) (P : Point) → value (transposed f) P ≈ value f (record { r = P .s; s = P .r })
@@ -16,8 +17,11 @@ unfolding value flipped
 flipping f P = record { crossed = equal (valueₑ (flippedₑ anyₑ) rₑ sₑ) (valueₑ anyₑ rₑ (wholeₑ (# 1) -ₑ sₑ)) tt (any f P []) }
 
 mirroring : (f : Cubic) (P : Point) → value (mirrored f) P ≈ value f (record { r = complement (P .r); s = P .s })
-unfolding value mirrored transposed flipped
-mirroring f P = record { crossed = equal (valueₑ (transposedₑ (flippedₑ (transposedₑ anyₑ))) rₑ sₑ) (valueₑ anyₑ (wholeₑ (# 1) -ₑ rₑ) sₑ) tt (any f P []) }
+unfolding mirrored
+mirroring f P =
+    ≈-trans {y = value (flipped (transposed f)) (record { r = P .s; s = P .r })} (transposing (flipped (transposed f)) P)
+    (≈-trans {y = value (transposed f) (record { r = P .s; s = complement (P .r) })} (flipping (transposed f) (record { r = P .s; s = P .r }))
+    (transposing f (record { r = P .s; s = complement (P .r) })))
 
 pub turnings : Turnings
 unfolding sibson onLeft

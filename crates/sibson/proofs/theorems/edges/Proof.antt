@@ -1,6 +1,6 @@
 -- `sibson::theorems::edges`: two cells that share an edge agree along it. Assumes nothing.
 use mathlib.Core.Path.{refl}
-use Rattle.sibson.proofs.AlongEdges.{edges}
+use Rattle.sibson.proofs.SharedEdges.{edges}
 use Rattle.sibson.proofs.theorems.edges.Statement.{statement}
 use Rattle.sibson.proofs.theorems.edges.Tie as tie
 
