@@ -5,22 +5,23 @@ use mathlib.Core.Path.{_≡_, refl, sym, subst₂}
 use mathlib.Core.List.{[], _∷_}
 use Prim.Native.Nat.{ℕ, _-_, _*_}
 use native.Mathlib.Nat.{mul-pos}
-use lib.Dec.{T, ltb→lt}
+use lib.Dec.{ltb→lt}
 use lib.IntN.{ℤ, pos, negℤ, _+ℤ_, _*ℤ_}
 use lib.Signed.{leZ-yes}
-use Rattle.sibson.specs.Fraction.{Positive, ℚ, _≈_, _·ℚ_, _÷_, positive, whole, half, complement}
-use Rattle.sibson.specs.Cubic.{Cell, Point, Cubic, Power, one, r¹, s¹, r², rs, s², r³, r²s, rs², s³, coefficient, value, byR, byS, Jet, jet, _≋_}
-use Rattle.sibson.specs.Piece.{Piece, top, right, bottom, left, next, FourCubics, HalfDiagonal, Corner, leftTop, rightTop, at}
-use Rattle.sibson.specs.Conditions.{Smooth, squareTerm, squareInR, squareInS}
+use Rattle.sibson.specs.Fraction.{ℚ, _÷_, positive, whole, half, complement}
+use Rattle.sibson.specs.Cubic.{Cell, Point, Cubic, Power, one, r¹, s¹, r², rs, s², r³, r²s, rs², s³, coefficient, value, byR, byS, jet, _≋_}
+use Rattle.sibson.specs.Piece.{Piece, top, right, bottom, left, next, FourCubics, HalfDiagonal, leftTop, rightTop, at}
+use Rattle.sibson.specs.Conditions.{Smooth, squareTerm, squareInR}
 use Rattle.integers.proofs.Polynomial.{Expr, #_, _⊗_, _⊕_, ⊖_}
 use Rattle.integers.proofs.Solve.{Claim, _≐_}
 use Rattle.integers.proofs.Deduce.{_·_, _⊨_, deduce, certified-sound}
 use Rattle.integers.proofs.Order.{*ℤ-cancel-r}
 use Rattle.sibson.proofs.Fractions.{≈-refl, ≈-sym, ≈-trans, ≈-once, ≈-÷-cancel, ≈-÷-zero}
 use Rattle.sibson.proofs.Jets.{≋-sym, ≋-trans, none}
-use Rattle.sibson.proofs.Quote.{Quotient, _/ₑ_, Cubicₑ, byRₑ, bySₑ, squareₑ, anyₑ, rₑ, sₑ, any, cubic}
+use Rattle.sibson.proofs.Quote.{_/ₑ_, nil, Cubicₑ, byRₑ, bySₑ, squareₑ, anyₑ, cubic}
 use Rattle.sibson.proofs.Evaluate.{numerator, numeratorₑ, cubes, vanishes, numerators}
-use Rattle.sibson.proofs.Rotation.{rotated, around, onSide, quarter, rotatedSet, rotated-jet, ≋-quarter, smooth-rotated, square-rotated, NothingAtCorners, corners-rotated, Zero, zero-rotated}
+use Rattle.sibson.proofs.Rotation.{rotated, onSide, quarter, rotatedSet, rotated-jet, ≋-quarter, smooth-rotated, square-rotated, NothingAtCorners, corners-rotated, zero-rotated}
+use Rattle.sibson.proofs.Coefficients.{edgewise, Squared, is-edgewise, Zero}
 
 pub record Blank (C : Cell) (D : FourCubics) : Type 0 where
   pub smooth : Smooth C D
@@ -36,16 +37,6 @@ blank-rotated {C} {D} b = record {
 }
 
 -- ---- along the top edge
-
--- the cubic is s² (c02 + c12 r + c03 s)
-record Squared (f : Cubic) : Type 0 where
-  z00 : f .c00 ≡ pos 0
-  z10 : f .c10 ≡ pos 0
-  z01 : f .c01 ≡ pos 0
-  z20 : f .c20 ≡ pos 0
-  z11 : f .c11 ≡ pos 0
-  z30 : f .c30 ≡ pos 0
-  z21 : f .c21 ≡ pos 0
 
 -- numerators of the value and of the derivatives at a corner
 record Nothing (f : Cubic) (P : Point) : Type 0 where
@@ -64,25 +55,25 @@ nothing-at C f P e = record {
 abbrev atₑ : Cubicₑ → ℕ → Expr
 atₑ f a = numeratorₑ f (# a /ₑ # 1) (# 0 /ₑ # 1)
 
-squared : (f : Cubic) → Nothing f (at leftTop) → Nothing f (at rightTop) → squareTerm top f ≡ pos 0 → Squared f
+squares : (f : Cubic) → Nothing f (at leftTop) → Nothing f (at rightTop) → squareTerm top f ≡ pos 0 → Squared f
 unfolding numerator byR byS squareTerm squareInR
-squared f a b q = record {
-  z00 = certified-sound ((# 1 · (atₑ anyₑ 0 ≐ # 0)) ∷ []) (anyₑ .c00 ≐ # 0) tt (cubic f []) (a .h);
-  z10 = certified-sound ((# 1 · (atₑ (byRₑ anyₑ) 0 ≐ # 0)) ∷ []) (anyₑ .c10 ≐ # 0) tt (cubic f []) (a .x);
-  z01 = certified-sound ((# 1 · (atₑ (bySₑ anyₑ) 0 ≐ # 0)) ∷ []) (anyₑ .c01 ≐ # 0) tt (cubic f []) (a .y);
-  z20 = certified-sound ((⊖ # 3 · (atₑ anyₑ 0 ≐ # 0)) ∷ (⊖ # 2 · (atₑ (byRₑ anyₑ) 0 ≐ # 0)) ∷ (# 3 · (atₑ anyₑ 1 ≐ # 0)) ∷ (⊖ # 1 · (atₑ (byRₑ anyₑ) 1 ≐ # 0)) ∷ [])
-      (anyₑ .c20 ≐ # 0) tt (cubic f []) (a .h) (a .x) (b .h) (b .x);
-  z11 = certified-sound ((⊖ # 1 · (atₑ (bySₑ anyₑ) 0 ≐ # 0)) ∷ (# 1 · (atₑ (bySₑ anyₑ) 1 ≐ # 0)) ∷ (⊖ # 1 · (squareₑ top anyₑ ≐ # 0)) ∷ [])
-      (anyₑ .c11 ≐ # 0) tt (cubic f []) (a .y) (b .y) q;
-  z30 = certified-sound ((# 2 · (atₑ anyₑ 0 ≐ # 0)) ∷ (# 1 · (atₑ (byRₑ anyₑ) 0 ≐ # 0)) ∷ (⊖ # 2 · (atₑ anyₑ 1 ≐ # 0)) ∷ (# 1 · (atₑ (byRₑ anyₑ) 1 ≐ # 0)) ∷ [])
-      (anyₑ .c30 ≐ # 0) tt (cubic f []) (a .h) (a .x) (b .h) (b .x);
-  z21 = certified-sound ((# 1 · (squareₑ top anyₑ ≐ # 0)) ∷ []) (anyₑ .c21 ≐ # 0) tt (cubic f []) q;
+squares f a b q = record {
+  z00 = certified-sound ((# 1 · nil (atₑ anyₑ 0)) ∷ []) (nil (anyₑ .c00)) tt (cubic f []) (a .h);
+  z10 = certified-sound ((# 1 · nil (atₑ (byRₑ anyₑ) 0)) ∷ []) (nil (anyₑ .c10)) tt (cubic f []) (a .x);
+  z01 = certified-sound ((# 1 · nil (atₑ (bySₑ anyₑ) 0)) ∷ []) (nil (anyₑ .c01)) tt (cubic f []) (a .y);
+  z20 = certified-sound ((⊖ # 3 · nil (atₑ anyₑ 0)) ∷ (⊖ # 2 · nil (atₑ (byRₑ anyₑ) 0)) ∷ (# 3 · nil (atₑ anyₑ 1)) ∷ (⊖ # 1 · nil (atₑ (byRₑ anyₑ) 1)) ∷ [])
+      (nil (anyₑ .c20)) tt (cubic f []) (a .h) (a .x) (b .h) (b .x);
+  z11 = certified-sound ((⊖ # 1 · nil (atₑ (bySₑ anyₑ) 0)) ∷ (# 1 · nil (atₑ (bySₑ anyₑ) 1)) ∷ (⊖ # 1 · nil (squareₑ top anyₑ)) ∷ [])
+      (nil (anyₑ .c11)) tt (cubic f []) (a .y) (b .y) q;
+  z30 = certified-sound ((# 2 · nil (atₑ anyₑ 0)) ∷ (# 1 · nil (atₑ (byRₑ anyₑ) 0)) ∷ (⊖ # 2 · nil (atₑ anyₑ 1)) ∷ (# 1 · nil (atₑ (byRₑ anyₑ) 1)) ∷ [])
+      (nil (anyₑ .c30)) tt (cubic f []) (a .h) (a .x) (b .h) (b .x);
+  z21 = certified-sound ((# 1 · nil (squareₑ top anyₑ)) ∷ []) (nil (anyₑ .c21)) tt (cubic f []) q;
 }
 
 top-squared : {C : Cell} {D : FourCubics} → Blank C D → Squared (D top)
 unfolding NothingAtCorners
 top-squared {C} {D} b =
-    squared (D top) (nothing-at C (D top) (at leftTop) (b .corners top leftTop tt)) (nothing-at C (D top) (at rightTop) (b .corners top rightTop tt)) (b .linear top)
+    squares (D top) (nothing-at C (D top) (at leftTop) (b .corners top leftTop tt)) (nothing-at C (D top) (at rightTop) (b .corners top rightTop tt)) (b .linear top)
 
 -- ---- where two pieces meet
 
@@ -110,37 +101,6 @@ joint C D b t h e = let f = D top in let g = rotated (D right) in
           (≈-trans {y = value (byR g) (turnedMeeting t)} (≈-÷-cancel (C .H) (j .xSlopes)) (≈-once (value (byR g) (turnedMeeting t))));
       y = numerators (byS g) (byR f) (turnedMeeting t) (meeting t) (negℤ (pos 1)) (sym e) (≈-÷-cancel (C .W) (≈-sym (j .ySlopes)));
     }
-
--- α, β and γ of a piece along its edge, the other coefficients 0
-abbrev edgewise : Cubic → Cubic
-edgewise f = record {
-  c00 = pos 0;
-  c10 = pos 0;
-  c01 = pos 0;
-  c20 = pos 0;
-  c11 = pos 0;
-  c02 = f .c02;
-  c30 = pos 0;
-  c21 = pos 0;
-  c12 = f .c12;
-  c03 = f .c03;
-  divisor = f .divisor;
-}
-
-is-edgewise : (f : Cubic) → Squared f → f ≡ edgewise f
-is-edgewise f z = λ i. record {
-  c00 = z .z00 i;
-  c10 = z .z10 i;
-  c01 = z .z01 i;
-  c20 = z .z20 i;
-  c11 = z .z11 i;
-  c02 = f .c02;
-  c30 = z .z30 i;
-  c21 = z .z21 i;
-  c12 = f .c12;
-  c03 = f .c03;
-  divisor = f .divisor;
-}
 
 abbrev edgewiseₑ : Expr → Expr → Expr → Expr → Cubicₑ
 edgewiseₑ α β γ d = record { c00 = # 0; c10 = # 0; c01 = # 0; c20 = # 0; c11 = # 0; c02 = α; c30 = # 0; c21 = # 0; c12 = β; c03 = γ; divisor = d }
@@ -187,7 +147,8 @@ module _ (f g : Cubic) (h : Joint (edgewise f) (edgewise g) half) where
 -- ---- so every piece is 0
 
 module _ {C : Cell} {D : FourCubics} (b : Blank C D) where
-  joints : (t : ℚ) → HalfDiagonal top (meeting t) → cubes (meeting t) .number ≡ cubes (turnedMeeting t) .number → Joint (edgewise (D top)) (edgewise (rotated (D right))) t
+  joints : (t : ℚ) → HalfDiagonal top (meeting t) → cubes (meeting t) .number ≡ cubes (turnedMeeting t) .number →
+      Joint (edgewise (D top)) (edgewise (rotated (D right))) t
   unfolding rotatedSet next
   joints t h e =
       subst₂ (λ f g. Joint f g t) (is-edgewise (D top) (top-squared b)) (is-edgewise (rotated (D right)) (top-squared (blank-rotated b))) (joint C D b t h e)

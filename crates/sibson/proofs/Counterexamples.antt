@@ -1,26 +1,29 @@
 -- Sets that are not 0, have nothing at the corners, and meet all conditions but those along one edge, or along two half diagonals; the others by
 -- quarter turns. Assumes nothing.
 use mathlib.Core.Path.{_≡_, refl, sym, _∙_, ap, subst}
+use mathlib.Core.Bool.{Bool, true, _&&_}
 use mathlib.Core.List.{List, [], _∷_}
-use Prim.Native.Nat.{ℕ, _<_}
+use Prim.Native.Nat.{_<_}
 use native.Mathlib.Omega.{arith}
 use lib.Dec.{T, ltb, ltb→lt}
 use lib.ListN.{getD}
 use lib.IntN.{ℤ, pos, natAbs}
 use Rattle.sibson.specs.Fraction.{ℚ, positive, half}
-use Rattle.sibson.specs.Cubic.{Cell, Point, Cubic, Power, one, r¹, s¹, r², rs, s², r³, r²s, rs², s³, coefficient, _≅_, byR, byS, jet, _≋_}
-use Rattle.sibson.specs.Piece.{Piece, top, right, bottom, left, number, next, FourCubics, triangle, HalfDiagonal, Corner, leftTop, rightTop, leftBottom, rightBottom, at}
+use Rattle.sibson.specs.Cubic.{Cell, Cubic, Power, one, r¹, s¹, r², rs, s², r³, r²s, rs², s³, coefficient, _≅_, byR, byS, jet, _≋_}
+use Rattle.sibson.specs.Piece.{Piece, top, right, bottom, left, number, next, FourCubics, triangle, Corner, leftTop, rightTop, leftBottom, rightBottom, at}
 use Rattle.sibson.specs.Conditions.{squareTerm, squareInR, squareInS, SameCorners, Equal}
 use Rattle.sibson.specs.Element.{+_, −_}
-use Rattle.sibson.specs.Needed.{MeetsSome, Counterexample, Needed}
+use Rattle.sibson.specs.Needed.{Counterexample, Needed}
 use Rattle.integers.proofs.Polynomial.{con, #_, _⊗_}
-use Rattle.integers.proofs.Solve.{_≐_}
-use Rattle.integers.proofs.Deduce.{_·_, _⊨_, deduce}
+use Rattle.integers.proofs.Solve.{_≐_, same, same-sound}
+use Rattle.integers.proofs.Deduce.{_·_, _⊨_, deduce, both}
+use Rattle.sibson.proofs.Finite.{everyPiece, every-piece, everyCorner, every-corner, implies, implied, differs, apart, and}
 use Rattle.sibson.proofs.Jets.{≋-sym, ≋-trans, none, jet-at}
-use Rattle.sibson.proofs.Quote.{Cubicₑ, fraction}
-use Rattle.sibson.proofs.Evaluate.{numerator, numeratorsAt, by-numerators, none-at, flatₑ, sameThree, same-three}
+use Rattle.sibson.proofs.Quote.{Cubicₑ, squareₑ, fraction}
+use Rattle.sibson.proofs.Evaluate.{numerator, numeratorsAt, by-numerators, none-at, flatₑ, three, sameThree, same-three}
 use Rattle.sibson.proofs.Exists.{onLine, onLineₑ, on-line, atₑ}
-use Rattle.sibson.proofs.Rotation.{rotated, rotatedSet, onSide, SmoothAt, smooth-rotated, square-rotated, NothingAtCorners, corners-rotated, Zero, zero-rotated}
+use Rattle.sibson.proofs.Coefficients.{Zero}
+use Rattle.sibson.proofs.Rotation.{rotatedSet, onSide, SmoothAt, smooth-rotated, square-rotated, NothingAtCorners, corners-rotated, zero-rotated}
 
 -- ---- sets of whole coefficients, in the powers' order
 
@@ -61,53 +64,61 @@ abbrev given : Cell → ℚ → List ℤ
 given C t = pos (C .W .number) ∷ pos (C .H .number) ∷ fraction t []
 
 -- the two pieces at a half diagonal agree on its line
-Joins : Coefficients → Piece → Type 0
-Joins c k = T (sameThree (onLineₑ k (whole-cubicₑ (c k))) (onLineₑ k (whole-cubicₑ (c (next k)))))
+abbrev joins : Coefficients → Piece → Bool
+joins c k = sameThree (onLineₑ k (whole-cubicₑ (c k))) (onLineₑ k (whole-cubicₑ (c (next k))))
 
-joined : (c : Coefficients) (C : Cell) (k : Piece) → Joins c k → (s : ℚ) → jet C (whole-cubic (c k)) (onLine k s) ≋ jet C (whole-cubic (c (next k))) (onLine k s)
-unfolding Joins next numeratorsAt numerator byR byS
-joined c C top t s = by-numerators C (whole-cubic (c top)) (whole-cubic (c right)) (onLine top s) refl (same-three (onLineₑ top (whole-cubicₑ (c top))) (onLineₑ top (whole-cubicₑ (c right))) t (given C s))
-joined c C right t s = by-numerators C (whole-cubic (c right)) (whole-cubic (c bottom)) (onLine right s) refl (same-three (onLineₑ right (whole-cubicₑ (c right))) (onLineₑ right (whole-cubicₑ (c bottom))) t (given C s))
-joined c C bottom t s = by-numerators C (whole-cubic (c bottom)) (whole-cubic (c left)) (onLine bottom s) refl (same-three (onLineₑ bottom (whole-cubicₑ (c bottom))) (onLineₑ bottom (whole-cubicₑ (c left))) t (given C s))
-joined c C left t s = by-numerators C (whole-cubic (c left)) (whole-cubic (c top)) (onLine left s) refl (same-three (onLineₑ left (whole-cubicₑ (c left))) (onLineₑ left (whole-cubicₑ (c top))) t (given C s))
+joined : (c : Coefficients) (C : Cell) (k : Piece) → T (joins c k) → (s : ℚ) → jet C (whole-cubic (c k)) (onLine k s) ≋ jet C (whole-cubic (c (next k))) (onLine k s)
+unfolding next numeratorsAt numerator byR byS
+joined c C top t s = by-numerators C (whole-cubic (c top)) (whole-cubic (c right)) (onLine top s) refl
+    (same-three (onLineₑ top (whole-cubicₑ (c top))) (onLineₑ top (whole-cubicₑ (c right))) t (given C s))
+joined c C right t s = by-numerators C (whole-cubic (c right)) (whole-cubic (c bottom)) (onLine right s) refl
+    (same-three (onLineₑ right (whole-cubicₑ (c right))) (onLineₑ right (whole-cubicₑ (c bottom))) t (given C s))
+joined c C bottom t s = by-numerators C (whole-cubic (c bottom)) (whole-cubic (c left)) (onLine bottom s) refl
+    (same-three (onLineₑ bottom (whole-cubicₑ (c bottom))) (onLineₑ bottom (whole-cubicₑ (c left))) t (given C s))
+joined c C left t s = by-numerators C (whole-cubic (c left)) (whole-cubic (c top)) (onLine left s) refl
+    (same-three (onLineₑ left (whole-cubicₑ (c left))) (onLineₑ left (whole-cubicₑ (c top))) t (given C s))
 
-smooth : (c : Coefficients) (C : Cell) (k : Piece) → Joins c k → SmoothAt C (λ l. whole-cubic (c l)) k
-smooth c C k t P h = let l = on-line k P h in
-    ≋-trans {j = jet C (whole-cubic (c k)) P} {k = jet C (whole-cubic (c k)) (onLine k (P .s))} {l = jet C (whole-cubic (c (next k))) P} (jet-at C (whole-cubic (c k)) l)
-    (≋-trans {j = jet C (whole-cubic (c k)) (onLine k (P .s))} {k = jet C (whole-cubic (c (next k))) (onLine k (P .s))} {l = jet C (whole-cubic (c (next k))) P}
-    (joined c C k t (P .s)) (≋-sym (jet-at C (whole-cubic (c (next k))) l)))
+smooth : (c : Coefficients) (C : Cell) (k : Piece) → T (joins c k) → SmoothAt C (λ l. whole-cubic (c l)) k
+smooth c C k t P h = let l = on-line k P h in let f = whole-cubic (c k) in let g = whole-cubic (c (next k)) in
+    ≋-trans {j = jet C f P} {k = jet C f (onLine k (P .s))} {l = jet C g P} (jet-at C f l)
+    (≋-trans {j = jet C f (onLine k (P .s))} {k = jet C g (onLine k (P .s))} {l = jet C g P} (joined c C k t (P .s)) (≋-sym (jet-at C g l)))
 
--- a piece has nothing at a corner
-Bare : Coefficients → Piece → Corner → Type 0
-Bare c k v = T (sameThree (atₑ v (whole-cubicₑ (c k))) flatₑ)
+-- no square term along a piece's edge
+abbrev flat : Coefficients → Piece → Bool
+flat c k = same (squareₑ k (whole-cubicₑ (c k))) (# 0)
 
-record AllBare (c : Coefficients) : Type 0 where
-  top-leftTop : Bare c top leftTop
-  top-rightTop : Bare c top rightTop
-  right-rightTop : Bare c right rightTop
-  right-rightBottom : Bare c right rightBottom
-  bottom-rightBottom : Bare c bottom rightBottom
-  bottom-leftBottom : Bare c bottom leftBottom
-  left-leftBottom : Bare c left leftBottom
-  left-leftTop : Bare c left leftTop
+linear : (c : Coefficients) (k : Piece) → T (flat c k) → squareTerm k (whole-cubic (c k)) ≡ pos 0
+unfolding squareTerm squareInR squareInS byR byS
+linear c top t = same-sound (squareₑ top (whole-cubicₑ (c top))) (# 0) t []
+linear c right t = same-sound (squareₑ right (whole-cubicₑ (c right))) (# 0) t []
+linear c bottom t = same-sound (squareₑ bottom (whole-cubicₑ (c bottom))) (# 0) t []
+linear c left t = same-sound (squareₑ left (whole-cubicₑ (c left))) (# 0) t []
 
-nothing : (c : Coefficients) (C : Cell) → AllBare c → NothingAtCorners C (λ k. whole-cubic (c k))
-unfolding NothingAtCorners Bare numeratorsAt numerator byR byS
-nothing c C b top leftTop t = none-at C (whole-cubic (c top)) (at leftTop) (same-three (atₑ leftTop (whole-cubicₑ (c top))) flatₑ (b .top-leftTop) (given C half))
-nothing c C b top rightTop t = none-at C (whole-cubic (c top)) (at rightTop) (same-three (atₑ rightTop (whole-cubicₑ (c top))) flatₑ (b .top-rightTop) (given C half))
-nothing c C b right rightTop t = none-at C (whole-cubic (c right)) (at rightTop) (same-three (atₑ rightTop (whole-cubicₑ (c right))) flatₑ (b .right-rightTop) (given C half))
-nothing c C b right rightBottom t = none-at C (whole-cubic (c right)) (at rightBottom) (same-three (atₑ rightBottom (whole-cubicₑ (c right))) flatₑ (b .right-rightBottom) (given C half))
-nothing c C b bottom rightBottom t = none-at C (whole-cubic (c bottom)) (at rightBottom) (same-three (atₑ rightBottom (whole-cubicₑ (c bottom))) flatₑ (b .bottom-rightBottom) (given C half))
-nothing c C b bottom leftBottom t = none-at C (whole-cubic (c bottom)) (at leftBottom) (same-three (atₑ leftBottom (whole-cubicₑ (c bottom))) flatₑ (b .bottom-leftBottom) (given C half))
-nothing c C b left leftBottom t = none-at C (whole-cubic (c left)) (at leftBottom) (same-three (atₑ leftBottom (whole-cubicₑ (c left))) flatₑ (b .left-leftBottom) (given C half))
-nothing c C b left leftTop t = none-at C (whole-cubic (c left)) (at leftTop) (same-three (atₑ leftTop (whole-cubicₑ (c left))) flatₑ (b .left-leftTop) (given C half))
+-- a piece has nothing at a corner that it touches
+abbrev bare : Coefficients → Piece → Corner → Bool
+bare c k v = implies (triangle k (at v)) (sameThree (atₑ v (whole-cubicₑ (c k))) flatₑ)
+
+is-flat : (C : Cell) (c : List ℤ) (v : Corner) → T (sameThree (atₑ v (whole-cubicₑ c)) flatₑ) →
+    three (given C half) (atₑ v (whole-cubicₑ c)) ≡ three (given C half) flatₑ
+is-flat C c v t = same-three (atₑ v (whole-cubicₑ c)) flatₑ t (given C half)
+
+nothing : (c : Coefficients) (C : Cell) → ((k : Piece) (v : Corner) → T (bare c k v)) → NothingAtCorners C (λ k. whole-cubic (c k))
+unfolding NothingAtCorners numeratorsAt numerator byR byS
+nothing c C b top leftTop t = none-at C (whole-cubic (c top)) (at leftTop) (is-flat C (c top) leftTop (b top leftTop))
+nothing c C b top rightTop t = none-at C (whole-cubic (c top)) (at rightTop) (is-flat C (c top) rightTop (b top rightTop))
 nothing c C b top leftBottom t = absurd t
 nothing c C b top rightBottom t = absurd t
 nothing c C b right leftTop t = absurd t
+nothing c C b right rightTop t = none-at C (whole-cubic (c right)) (at rightTop) (is-flat C (c right) rightTop (b right rightTop))
 nothing c C b right leftBottom t = absurd t
+nothing c C b right rightBottom t = none-at C (whole-cubic (c right)) (at rightBottom) (is-flat C (c right) rightBottom (b right rightBottom))
 nothing c C b bottom leftTop t = absurd t
 nothing c C b bottom rightTop t = absurd t
+nothing c C b bottom leftBottom t = none-at C (whole-cubic (c bottom)) (at leftBottom) (is-flat C (c bottom) leftBottom (b bottom leftBottom))
+nothing c C b bottom rightBottom t = none-at C (whole-cubic (c bottom)) (at rightBottom) (is-flat C (c bottom) rightBottom (b bottom rightBottom))
+nothing c C b left leftTop t = none-at C (whole-cubic (c left)) (at leftTop) (is-flat C (c left) leftTop (b left leftTop))
 nothing c C b left rightTop t = absurd t
+nothing c C b left leftBottom t = none-at C (whole-cubic (c left)) (at leftBottom) (is-flat C (c left) leftBottom (b left leftBottom))
 nothing c C b left rightBottom t = absurd t
 
 -- ---- witnesses
@@ -157,22 +168,43 @@ turned {C = C} d e w = record {
   not-zero = λ z. w .not-zero (subst (λ k. Zero (w .D k)) (next-previous (w .where-not)) (zero-rotated (w .D (next (previous (w .where-not)))) z));
 }
 
--- from coefficients, by computed tests
-exhibit : {diagonals edges : Piece → Type 0} (c : Coefficients) (C : Cell) → ((k : Piece) → diagonals k → Joins c k) →
-    ((k : Piece) → edges k → squareTerm k (whole-cubic (c k)) ≡ pos 0) → AllBare c → (k : Piece) (p : Power) → ¬ (coefficient (whole-cubic (c k)) p ≡ pos 0) →
-    Witness diagonals edges C
-unfolding Zero
-exhibit c C joins linear bare k p n = record {
-  D = λ l. whole-cubic (c l);
-  smooth = λ l t. smooth c C l (joins l t);
-  linear = linear;
-  corners = nothing c C bare;
-  where-not = k;
-  not-zero = λ z. n (z p);
-}
+-- from coefficients that pass the tests, with one coefficient that is not 0
+abbrev passes : Coefficients → (Piece → Bool) → (Piece → Bool) → Bool
+passes c diagonals edges = everyPiece (λ k. implies (diagonals k) (joins c k) && (implies (edges k) (flat c k) && everyCorner (λ v. bare c k v)))
 
-nonzero : (n : ℕ) → T (ltb 0 n) → ¬ (pos n ≡ pos 0)
-nonzero n t e = let p : 0 < n = ltb→lt 0 n t in let h : n ≡ 0 = ap natAbs e in absurd (omega arith)
+exhibit : (diagonals edges : Piece → Bool) (c : Coefficients) → T (passes c diagonals edges) →
+    (k : Piece) (p : Power) → T (ltb 0 (natAbs (coefficient (whole-cubic (c k)) p))) → (C : Cell) → Witness (λ l. T (diagonals l)) (λ l. T (edges l)) C
+unfolding Zero
+exhibit diagonals edges c t k p n C = record {
+  D = λ l. whole-cubic (c l);
+  smooth = λ l d. smooth c C l (implied (diagonals l) (joins c l) (parts l .0) d);
+  linear = λ l e. linear c l (implied (edges l) (flat c l) (parts l .1) e);
+  corners = nothing c C (λ l v. every-corner (λ u. bare c l u) (parts l .2) v);
+  where-not = k;
+  not-zero = λ z. nonzero (z p);
+}
+  where
+    parts : (l : Piece) → T (implies (diagonals l) (joins c l)) × T (implies (edges l) (flat c l)) × T (everyCorner (λ v. bare c l v))
+    parts l =
+        let (a, u) = both (implies (diagonals l) (joins c l)) (implies (edges l) (flat c l) && everyCorner (λ v. bare c l v))
+        (every-piece (λ k. implies (diagonals k) (joins c k) && (implies (edges k) (flat c k) && everyCorner (λ v. bare c k v))) t l) in
+        let (b, v) = both (implies (edges l) (flat c l)) (everyCorner (λ v. bare c l v)) u in (a, b, v)
+
+    nonzero : ¬ (coefficient (whole-cubic (c k)) p ≡ pos 0)
+    nonzero e = let h : 0 < natAbs (coefficient (whole-cubic (c k)) p) = ltb→lt 0 (natAbs (coefficient (whole-cubic (c k)) p)) n in
+        let z : natAbs (coefficient (whole-cubic (c k)) p) ≡ 0 = ap natAbs e in absurd (omega arith)
+
+-- fewer conditions
+fewer : {diagonals edges diagonals′ edges′ : Piece → Type 0} {C : Cell} →
+    ((k : Piece) → diagonals′ k → diagonals k) → ((k : Piece) → edges′ k → edges k) → Witness diagonals edges C → Witness diagonals′ edges′ C
+fewer d e w = record {
+  D = w .D;
+  smooth = λ k t. w .smooth k (d k t);
+  linear = λ k t. w .linear k (e k t);
+  corners = w .corners;
+  where-not = w .where-not;
+  not-zero = w .not-zero;
+}
 
 -- ---- all half diagonals and three edges
 
@@ -182,45 +214,40 @@ All k = Unit {0}
 abbrev Not : Piece → Piece → Type 0
 Not k l = ¬ (l ≡ k)
 
+abbrev all : Piece → Bool
+all k = true
+
 offTop : Coefficients
 offTop top = + 0 ∷ + 0 ∷ + 0 ∷ + 0 ∷ − 6 ∷ + 3 ∷ + 0 ∷ + 6 ∷ + 0 ∷ − 1 ∷ []
 offTop right = − 1 ∷ + 0 ∷ + 3 ∷ + 3 ∷ − 6 ∷ + 0 ∷ − 2 ∷ + 3 ∷ []
 offTop bottom = − 1 ∷ + 0 ∷ + 3 ∷ + 0 ∷ + 0 ∷ − 3 ∷ + 0 ∷ + 0 ∷ + 0 ∷ + 1 ∷ []
 offTop left = + 0 ∷ + 0 ∷ + 0 ∷ − 3 ∷ + 0 ∷ + 0 ∷ + 2 ∷ + 3 ∷ []
 
-without-top : (C : Cell) → Witness All (Not top) C
-unfolding offTop Joins Bare squareTerm squareInR squareInS byR byS next
-without-top C = exhibit {diagonals = All} {edges = Not top} offTop C joins linear bare top s² (nonzero 3 tt)
-  where
-    joins : (k : Piece) → All k → Joins offTop k
-    joins top t = tt
-    joins right t = tt
-    joins bottom t = tt
-    joins left t = tt
+no-top : (C : Cell) → Witness All (Not top) C
+unfolding offTop next number
+no-top C = fewer {diagonals = All} {edges = λ l. T (differs top l)} {diagonals′ = All} {edges′ = Not top} (λ k t. t) (apart top)
+    (exhibit all (differs top) offTop tt top s² tt C)
 
-    linear : (k : Piece) → Not top k → squareTerm k (whole-cubic (offTop k)) ≡ pos 0
-    linear top t = absurd (t refl)
-    linear right t = refl
-    linear bottom t = refl
-    linear left t = refl
-
-    bare : AllBare offTop
-    bare = record { top-leftTop = tt; top-rightTop = tt; right-rightTop = tt; right-rightBottom = tt; bottom-rightBottom = tt; bottom-leftBottom = tt; left-leftBottom = tt; left-leftTop = tt }
-
-without-next : (k : Piece) → ((C : Cell) → Witness All (Not (next k)) C) → (C : Cell) → Witness All (Not k) C
-without-next k w C = turned {diagonals = All} {edges = Not (next k)} (λ l t. t) (λ l t. next-apart t) (w (onSide C))
+no-next : (k : Piece) → ((C : Cell) → Witness All (Not (next k)) C) → (C : Cell) → Witness All (Not k) C
+no-next k w C = turned {diagonals = All} {edges = Not (next k)} (λ l t. t) (λ l t. next-apart t) (w (onSide C))
 
 without-edge : (k : Piece) (C : Cell) → Witness All (Not k) C
 unfolding next
-without-edge top = without-top
-without-edge left = without-next left without-top
-without-edge bottom = without-next bottom (without-next left without-top)
-without-edge right = without-next right (without-next bottom (without-next left without-top))
+without-edge top = no-top
+without-edge left = no-next left no-top
+without-edge bottom = no-next bottom (no-next left no-top)
+without-edge right = no-next right (no-next bottom (no-next left no-top))
 
 -- ---- all edges and two half diagonals
 
 abbrev Neither : Piece → Piece → Piece → Type 0
 Neither j k l = ¬ (l ≡ j) × ¬ (l ≡ k)
+
+abbrev neither : Piece → Piece → Piece → Bool
+neither j k l = differs j l && differs k l
+
+apart-both : (j k l : Piece) → Neither j k l → T (neither j k l)
+apart-both j k l (a, b) = and (differs j l) (differs k l) (apart j l a) (apart k l b)
 
 -- s² on the top piece alone
 besideTop : Coefficients
@@ -229,50 +256,12 @@ besideTop right = []
 besideTop bottom = []
 besideTop left = []
 
-without-top′ : (C : Cell) → Witness (Neither left top) All C
-unfolding besideTop Joins Bare squareTerm squareInR squareInS byR byS next
-without-top′ C = exhibit {diagonals = Neither left top} {edges = All} besideTop C joins linear bare top s² (nonzero 1 tt)
-  where
-    joins : (k : Piece) → Neither left top k → Joins besideTop k
-    joins top t = absurd (t .1 refl)
-    joins right t = tt
-    joins bottom t = tt
-    joins left t = absurd (t .0 refl)
-
-    linear : (k : Piece) → All k → squareTerm k (whole-cubic (besideTop k)) ≡ pos 0
-    linear top t = refl
-    linear right t = refl
-    linear bottom t = refl
-    linear left t = refl
-
-    bare : AllBare besideTop
-    bare = record { top-leftTop = tt; top-rightTop = tt; right-rightTop = tt; right-rightBottom = tt; bottom-rightBottom = tt; bottom-leftBottom = tt; left-leftBottom = tt; left-leftTop = tt }
-
 -- on the top and the right piece, which join
 acrossTop : Coefficients
 acrossTop top = + 0 ∷ + 0 ∷ + 0 ∷ + 0 ∷ + 0 ∷ − 3 ∷ + 0 ∷ + 0 ∷ + 3 ∷ + 2 ∷ []
 acrossTop right = − 1 ∷ + 3 ∷ + 0 ∷ − 3 ∷ + 0 ∷ + 0 ∷ + 1 ∷ []
 acrossTop bottom = []
 acrossTop left = []
-
-without-right : (C : Cell) → Witness (Neither left right) All C
-unfolding acrossTop Joins Bare squareTerm squareInR squareInS byR byS next
-without-right C = exhibit {diagonals = Neither left right} {edges = All} acrossTop C joins linear bare top s³ (nonzero 2 tt)
-  where
-    joins : (k : Piece) → Neither left right k → Joins acrossTop k
-    joins top t = tt
-    joins right t = absurd (t .1 refl)
-    joins bottom t = tt
-    joins left t = absurd (t .0 refl)
-
-    linear : (k : Piece) → All k → squareTerm k (whole-cubic (acrossTop k)) ≡ pos 0
-    linear top t = refl
-    linear right t = refl
-    linear bottom t = refl
-    linear left t = refl
-
-    bare : AllBare acrossTop
-    bare = record { top-leftTop = tt; top-rightTop = tt; right-rightTop = tt; right-rightBottom = tt; bottom-rightBottom = tt; bottom-leftBottom = tt; left-leftBottom = tt; left-leftTop = tt }
 
 -- r² on the left piece alone
 besideLeft : Coefficients
@@ -281,40 +270,28 @@ besideLeft right = []
 besideLeft bottom = []
 besideLeft left = + 0 ∷ + 0 ∷ + 0 ∷ + 1 ∷ []
 
-without-bottom : (C : Cell) → Witness (Neither left bottom) All C
-unfolding besideLeft Joins Bare squareTerm squareInR squareInS byR byS next
-without-bottom C = exhibit {diagonals = Neither left bottom} {edges = All} besideLeft C joins linear bare left r² (nonzero 1 tt)
-  where
-    joins : (k : Piece) → Neither left bottom k → Joins besideLeft k
-    joins top t = tt
-    joins right t = tt
-    joins bottom t = absurd (t .1 refl)
-    joins left t = absurd (t .0 refl)
-
-    linear : (k : Piece) → All k → squareTerm k (whole-cubic (besideLeft k)) ≡ pos 0
-    linear top t = refl
-    linear right t = refl
-    linear bottom t = refl
-    linear left t = refl
-
-    bare : AllBare besideLeft
-    bare = record { top-leftTop = tt; top-rightTop = tt; right-rightTop = tt; right-rightBottom = tt; bottom-rightBottom = tt; bottom-leftBottom = tt; left-leftBottom = tt; left-leftTop = tt }
-
-without-left : (k : Piece) → ¬ (left ≡ k) → (C : Cell) → Witness (Neither left k) All C
-without-left top n = without-top′
-without-left right n = without-right
-without-left bottom n = without-bottom
+without-left : (k : Piece) → Not left k → (C : Cell) → Witness (λ l. T (neither left k l)) (λ l. T (all l)) C
+unfolding besideTop acrossTop besideLeft next number
+without-left top n = exhibit (neither left top) all besideTop tt top s² tt
+without-left right n = exhibit (neither left right) all acrossTop tt top s³ tt
+without-left bottom n = exhibit (neither left bottom) all besideLeft tt left r² tt
 without-left left n = absurd (n refl)
 
-both-next : (j : Piece) → ((k : Piece) → ¬ (next j ≡ k) → (C : Cell) → Witness (Neither (next j) k) All C) → (k : Piece) → ¬ (j ≡ k) → (C : Cell) → Witness (Neither j k) All C
-both-next j w k n C = turned {diagonals = Neither (next j) (next k)} {edges = All} (λ l t. (next-apart (t .0), next-apart (t .1))) (λ l t. t) (w (next k) (next-apart n) (onSide C))
+no-left : (k : Piece) → Not left k → (C : Cell) → Witness (Neither left k) All C
+no-left k n C =
+    fewer {diagonals = λ l. T (neither left k l)} {edges = All} {diagonals′ = Neither left k} {edges′ = All} (apart-both left k) (λ l t. t) (without-left k n C)
 
-without-both : (j k : Piece) → ¬ (j ≡ k) → (C : Cell) → Witness (Neither j k) All C
+both-next : (j : Piece) → ((k : Piece) → Not (next j) k → (C : Cell) → Witness (Neither (next j) k) All C) →
+    (k : Piece) → Not j k → (C : Cell) → Witness (Neither j k) All C
+both-next j w k n C =
+    turned {diagonals = Neither (next j) (next k)} {edges = All} (λ l t. (next-apart (t .0), next-apart (t .1))) (λ l t. t) (w (next k) (next-apart n) (onSide C))
+
+without-both : (j k : Piece) → Not j k → (C : Cell) → Witness (Neither j k) All C
 unfolding next
-without-both left = without-left
-without-both bottom = both-next bottom without-left
-without-both right = both-next right (both-next bottom without-left)
-without-both top = both-next top (both-next right (both-next bottom without-left))
+without-both left = no-left
+without-both bottom = both-next bottom no-left
+without-both right = both-next right (both-next bottom no-left)
+without-both top = both-next top (both-next right (both-next bottom no-left))
 
 -- ---- the set that is 0 is the other of each pair
 
@@ -339,30 +316,19 @@ zeros : Coefficients
 zeros k = []
 
 counterexample : {diagonals edges : Piece → Type 0} {C : Cell} → Witness diagonals edges C → Counterexample diagonals edges C
-unfolding zeros Joins Bare Zero SameCorners NothingAtCorners squareTerm squareInR squareInS byR byS next Equal
+unfolding zeros SameCorners NothingAtCorners Equal Zero next
 counterexample {C = C} w = record {
   S = w .D;
   S′ = λ k. whole-cubic (zeros k);
   meets = record { smooth = w .smooth; linear = w .linear };
-  meets′ = record { smooth = λ k t. smooth zeros C k (joins k); linear = λ k t. linear k };
-  corners = λ k c t. ≋-trans {j = jet C (w .D k) (at c)} {k = none} {l = jet C (whole-cubic (zeros k)) (at c)} (w .corners k c t) (≋-sym (nothing zeros C bare k c t));
+  meets′ = record {
+    smooth = λ k t. smooth zeros C k (every-piece (joins zeros) tt k);
+    linear = λ k t. linear zeros k (every-piece (flat zeros) tt k);
+  };
+  corners = λ k c t. ≋-trans {j = jet C (w .D k) (at c)} {k = none} {l = jet C (whole-cubic (zeros k)) (at c)} (w .corners k c t)
+      (≋-sym (nothing zeros C (λ l v. every-corner (λ u. bare zeros l u) (every-piece (λ m. everyCorner (λ u. bare zeros m u)) tt l) v) k c t));
   unequal = λ e. w .not-zero (λ p. zero-of-nothing (w .D (w .where-not)) p (e (w .where-not)));
 }
-  where
-    joins : (k : Piece) → Joins zeros k
-    joins top = tt
-    joins right = tt
-    joins bottom = tt
-    joins left = tt
-
-    linear : (k : Piece) → squareTerm k (whole-cubic (zeros k)) ≡ pos 0
-    linear top = refl
-    linear right = refl
-    linear bottom = refl
-    linear left = refl
-
-    bare : AllBare zeros
-    bare = record { top-leftTop = tt; top-rightTop = tt; right-rightTop = tt; right-rightBottom = tt; bottom-rightBottom = tt; bottom-leftBottom = tt; left-leftBottom = tt; left-leftTop = tt }
 
 pub needed : Needed
-needed = record { edge = λ C k. counterexample (without-edge k C); halfDiagonals = λ C j k n. counterexample (without-both j k n C) }
+needed = record { edge = λ C k. counterexample (without-edge k C); halfDiagonals = λ C j k n. counterexample (without-both j k (λ e. n (sym e)) C) }

@@ -1,7 +1,7 @@
 -- The pieces cover the cell, and meet on the half diagonals only. Assumes nothing.
-use mathlib.Core.Path.{_≡_, refl, sym, subst}
+use mathlib.Core.Path.{refl, sym, subst}
 use mathlib.Core.Bool.{Bool, true, false, not, _&&_, cond}
-use Prim.Native.Nat.{ℕ, _≤_}
+use Prim.Native.Nat.{_≤_}
 use native.Mathlib.Omega.{arith}
 use lib.Dec.{T}
 use lib.IntN.{pos}
@@ -13,6 +13,7 @@ use Rattle.sibson.specs.Conditions.{Smooth}
 use Rattle.sibson.specs.Sense.{Sharing, same, with-next, with-previous, at-centre, Covering}
 use Rattle.integers.proofs.Deduce.{both}
 use Rattle.sibson.proofs.Fractions.{≈-sym, ≈-complement, ≤-left, ≤-right, ≤-complement, ≤-trans, ≤-antisym, ≤-of-≈, ≤-yes, ≤-test, ≤-no, ≤-swap, ≤-swap′, below-half, above-half}
+use Rattle.sibson.proofs.Finite.{and}
 use Rattle.sibson.proofs.Jets.{≋-refl, ≋-sym, ≋-trans}
 
 -- ---- 0, 1/2 and 1
@@ -40,10 +41,6 @@ one-complement = record { crossed = refl }
 either : (c : Bool) {A : Type 0} → (T c → A) → (T (not c) → A) → A
 either true f g = f tt
 either false f g = g tt
-
-and : (a b : Bool) → T a → T b → T (a && b)
-and true b s t = t
-and false b s t = absurd s
 
 contradiction : (c : Bool) {A : Type 0} → T c → T (not c) → A
 contradiction true s t = absurd t

@@ -1,20 +1,20 @@
 -- The difference of two cubics: its heights and slopes are the differences, and it is 0 exactly when the two are equal. Assumes nothing.
-use mathlib.Core.Path.{_≡_, refl, sym, _∙_, ap, subst}
-use mathlib.Core.List.{[], _∷_}
+use mathlib.Core.Path.{_≡_, refl, sym, _∙_, ap}
+use mathlib.Core.List.{List, [], _∷_}
 use Prim.Native.Nat.{_*_}
-use lib.IntN.{ℤ, pos, _+ℤ_, _-ℤ_, _*ℤ_}
-use Rattle.sibson.specs.Fraction.{Positive, ℚ, _≈_, _-ℚ_, _*⁺_, _÷_}
+use lib.IntN.{ℤ, pos, _-ℤ_, _*ℤ_}
+use Rattle.sibson.specs.Fraction.{_≈_, _-ℚ_, _*⁺_}
 use Rattle.sibson.specs.Cubic.{Cell, Point, Cubic, Power, one, r¹, s¹, r², rs, s², r³, r²s, rs², s³, coefficient, _≅_, value, byR, byS, Jet, jet, _≋_}
 use Rattle.sibson.specs.Piece.{Piece, top, right, bottom, left}
 use Rattle.sibson.specs.Conditions.{squareTerm, squareInR, squareInS}
 use Rattle.integers.proofs.Polynomial.{Expr, #_, _⊕_, _⊗_, _⊝_, ⊖_}
 use Rattle.integers.proofs.Solve.{_≐_}
-use Rattle.integers.proofs.Deduce.{_·_, _⊨_, deduce, certified-sound}
+use Rattle.integers.proofs.Deduce.{Used, _·_, _⊨_, deduce, certified-sound}
 use Rattle.sibson.proofs.Fractions.{≈-sym, ≈-trans, ≈--, ≈-÷-minus}
-use Rattle.sibson.proofs.Jets.{_⊟_, none}
-use Rattle.sibson.proofs.Quote.{Cubicₑ, squareₑ, cubicₑ, fractionₑ, cubic, fraction}
-use Rattle.sibson.proofs.Evaluate.{numerator, cubes, common, value-is, numeratorsAt, none-at, numeratorsₑ, flatₑ, same-three}
-use Rattle.sibson.proofs.Rotation.{Zero}
+use Rattle.sibson.proofs.Jets.{_⊟_}
+use Rattle.sibson.proofs.Quote.{Cubicₑ, nil, squareₑ, cubicₑ, fractionₑ, cubic, fraction}
+use Rattle.sibson.proofs.Evaluate.{numerator, cubes, common, value-is, numeratorsAt, numeratorsₑ, same-three}
+use Rattle.sibson.proofs.Coefficients.{Zero}
 
 unfoldable pub difference : Cubic → Cubic → Cubic
 difference f g = let d = pos (f .divisor .number) in let d′ = pos (g .divisor .number) in record {
@@ -59,12 +59,15 @@ differenceₑ = let d = fₑ .divisor in let d′ = gₑ .divisor in record {
 -- a value over both divisors, whose numerator is the difference crosswise
 minus : (h f g : Cubic) (P : Point) → h .divisor .number ≡ f .divisor .number * g .divisor .number →
     numerator h P ≡ numerator f P *ℤ pos (g .divisor .number) -ℤ numerator g P *ℤ pos (f .divisor .number) → value h P ≈ value f P -ℚ value g P
-minus h f g P d e = ≈-trans {y = common h P} (value-is h P) (≈-trans {y = common f P -ℚ common g P} (record { crossed = crossed }) (≈-sym (≈-- (value-is f P) (value-is g P))))
+minus h f g P d e = ≈-trans {y = common h P} (value-is h P)
+    (≈-trans {y = common f P -ℚ common g P} (record { crossed = crossed }) (≈-sym (≈-- (value-is f P) (value-is g P))))
   where
-    crossed : common h P .numerator *ℤ pos ((common f P -ℚ common g P) .denominator .number) ≡ (common f P -ℚ common g P) .numerator *ℤ pos (common h P .denominator .number)
+    crossed : common h P .numerator *ℤ pos ((common f P -ℚ common g P) .denominator .number)
+        ≡ (common f P -ℚ common g P) .numerator *ℤ pos (common h P .denominator .number)
     crossed = deduce 7 (λ x y z d d′ d″ n. (d ⊗ n ⊗ (d′ ⊗ n) · (x ≐ y ⊗ d′ ⊝ z ⊗ d)) ∷ (⊖ ((y ⊗ d′ ⊝ z ⊗ d) ⊗ n ⊗ n) · (d″ ≐ d ⊗ d′)) ∷ []
         ⊨ x ⊗ (d ⊗ n ⊗ (d′ ⊗ n)) ≐ (y ⊗ (d′ ⊗ n) ⊕ ⊖ # 1 ⊗ z ⊗ (d ⊗ n)) ⊗ (d″ ⊗ n)) tt
-        (numerator h P) (numerator f P) (numerator g P) (pos (f .divisor .number)) (pos (g .divisor .number)) (pos (h .divisor .number)) (pos (cubes P .number)) e (ap pos d)
+        (numerator h P) (numerator f P) (numerator g P) (pos (f .divisor .number)) (pos (g .divisor .number)) (pos (h .divisor .number))
+        (pos (cubes P .number)) e (ap pos d)
 
 abbrev crosswise : Jet ℤ → Jet ℤ → Cubic → Cubic → Jet ℤ
 crosswise a b f g = let d = pos (f .divisor .number) in let d′ = pos (g .divisor .number) in record {
@@ -95,12 +98,15 @@ jet-difference C f g P = let e = numerators-difference f g P in record {
 
 -- ---- square terms
 
+abbrev squares : Piece → List Used
+squares k = (gₑ .divisor · nil (squareₑ k fₑ)) ∷ (⊖ (fₑ .divisor) · nil (squareₑ k gₑ)) ∷ []
+
 pub square-difference : (k : Piece) (f g : Cubic) → squareTerm k f ≡ pos 0 → squareTerm k g ≡ pos 0 → squareTerm k (difference f g) ≡ pos 0
 unfolding squareTerm squareInR squareInS byR byS difference
-square-difference top f g a b = certified-sound ((gₑ .divisor · (squareₑ top fₑ ≐ # 0)) ∷ (⊖ (fₑ .divisor) · (squareₑ top gₑ ≐ # 0)) ∷ []) (squareₑ top differenceₑ ≐ # 0) tt (cubic f (cubic g [])) a b
-square-difference right f g a b = certified-sound ((gₑ .divisor · (squareₑ right fₑ ≐ # 0)) ∷ (⊖ (fₑ .divisor) · (squareₑ right gₑ ≐ # 0)) ∷ []) (squareₑ right differenceₑ ≐ # 0) tt (cubic f (cubic g [])) a b
-square-difference bottom f g a b = certified-sound ((gₑ .divisor · (squareₑ bottom fₑ ≐ # 0)) ∷ (⊖ (fₑ .divisor) · (squareₑ bottom gₑ ≐ # 0)) ∷ []) (squareₑ bottom differenceₑ ≐ # 0) tt (cubic f (cubic g [])) a b
-square-difference left f g a b = certified-sound ((gₑ .divisor · (squareₑ left fₑ ≐ # 0)) ∷ (⊖ (fₑ .divisor) · (squareₑ left gₑ ≐ # 0)) ∷ []) (squareₑ left differenceₑ ≐ # 0) tt (cubic f (cubic g [])) a b
+square-difference top f g a b = certified-sound (squares top) (nil (squareₑ top differenceₑ)) tt (cubic f (cubic g [])) a b
+square-difference right f g a b = certified-sound (squares right) (nil (squareₑ right differenceₑ)) tt (cubic f (cubic g [])) a b
+square-difference bottom f g a b = certified-sound (squares bottom) (nil (squareₑ bottom differenceₑ)) tt (cubic f (cubic g [])) a b
+square-difference left f g a b = certified-sound (squares left) (nil (squareₑ left differenceₑ)) tt (cubic f (cubic g [])) a b
 
 -- ---- no difference
 
@@ -132,46 +138,3 @@ unfolding Zero
 zero-of-equal f g e p = coefficient-difference f g p
     ∙ deduce 4 (λ a d b e. (# 1 · (a ⊗ (# 1 ⊗ e) ≐ b ⊗ (# 1 ⊗ d))) ∷ [] ⊨ a ⊗ e ⊝ b ⊗ d ≐ # 0) tt
     (coefficient f p) (pos (f .divisor .number)) (coefficient g p) (pos (g .divisor .number)) (e .coefficients p .crossed)
-
--- ---- a cubic that is 0 has nothing anywhere
-
-abbrev blank : Cubic → Cubic
-blank f = record {
-  c00 = pos 0;
-  c10 = pos 0;
-  c01 = pos 0;
-  c20 = pos 0;
-  c11 = pos 0;
-  c02 = pos 0;
-  c30 = pos 0;
-  c21 = pos 0;
-  c12 = pos 0;
-  c03 = pos 0;
-  divisor = f .divisor;
-}
-
-is-blank : (f : Cubic) → Zero f → f ≡ blank f
-unfolding Zero
-is-blank f z = λ i. record {
-  c00 = z one i;
-  c10 = z r¹ i;
-  c01 = z s¹ i;
-  c20 = z r² i;
-  c11 = z rs i;
-  c02 = z s² i;
-  c30 = z r³ i;
-  c21 = z r²s i;
-  c12 = z rs² i;
-  c03 = z s³ i;
-  divisor = f .divisor;
-}
-
-abbrev blankₑ : Cubicₑ
-blankₑ = record { c00 = # 0; c10 = # 0; c01 = # 0; c20 = # 0; c11 = # 0; c02 = # 0; c30 = # 0; c21 = # 0; c12 = # 0; c03 = # 0; divisor = # 1 }
-
-blank-jet : (C : Cell) (f : Cubic) (P : Point) → jet C (blank f) P ≋ none
-unfolding numeratorsAt numerator byR byS
-blank-jet C f P = none-at C (blank f) P (same-three (numeratorsₑ blankₑ (fractionₑ 0) (fractionₑ 2)) flatₑ tt (fraction (P .r) (fraction (P .s) [])))
-
-pub zero-jet : (C : Cell) (f : Cubic) → Zero f → (P : Point) → jet C f P ≋ none
-zero-jet C f z P = subst (λ g. jet C g P ≋ none) (sym (is-blank f z)) (blank-jet C f P)

@@ -5,7 +5,7 @@ use mathlib.Core.List.{List, [], _∷_}
 use Prim.Native.Nat.{_*_}
 use lib.Dec.{T}
 use lib.IntN.{ℤ, pos, _+ℤ_, _*ℤ_, zero-*ℤ}
-use Rattle.sibson.specs.Fraction.{Positive, ℚ, _≈_, _*⁺_, _·ℚ_, _÷_, whole}
+use Rattle.sibson.specs.Fraction.{Positive, ℚ, _≈_, _*⁺_, _·ℚ_, whole}
 use Rattle.sibson.specs.Cubic.{Cell, Point, Cubic, value, byR, byS, Jet, jet, _≋_}
 use Rattle.sibson.specs.Theorems.{perPixel}
 use Rattle.integers.proofs.Polynomial.{Expr, #_, _⊕_, _⊗_, ⊖_, eval}
@@ -59,7 +59,8 @@ numerators f g P Q c e h = *ℤ-cancel-r (cubes P .number) (cubes P .above)
     (numerator f P) (numerator g Q) c (pos (f .divisor .number)) (pos (g .divisor .number)) (pos (cubes P .number)) (pos (cubes Q .number))
     (≈-trans {y = value f P} (≈-sym (value-is f P)) (≈-trans {y = c ·ℚ value g Q} h (≈-· c (value-is g Q))) .crossed) (ap pos e))
 
-pub by-numerator : (f g : Cubic) (P Q : Point) → f .divisor .number ≡ g .divisor .number → cubes P .number ≡ cubes Q .number → numerator f P ≡ numerator g Q → value f P ≈ value g Q
+pub by-numerator : (f g : Cubic) (P Q : Point) → f .divisor .number ≡ g .divisor .number → cubes P .number ≡ cubes Q .number →
+    numerator f P ≡ numerator g Q → value f P ≈ value g Q
 by-numerator f g P Q d n e = ≈-trans {y = common f P} (value-is f P)
     (≈-trans {y = common g Q} (record { crossed = crossed }) (≈-sym (value-is g Q)))
   where
@@ -128,4 +129,8 @@ pub same-three : (a b : Jet Expr) → T (sameThree a b) → (ρ : List ℤ) → 
 same-three a b t ρ =
     let (h, u) = both (same (a .height) (b .height)) (same (a .xSlope) (b .xSlope) && same (a .ySlope) (b .ySlope)) t in
     let (x, y) = both (same (a .xSlope) (b .xSlope)) (same (a .ySlope) (b .ySlope)) u in
-    λ i. record { height = same-sound (a .height) (b .height) h ρ i; xSlope = same-sound (a .xSlope) (b .xSlope) x ρ i; ySlope = same-sound (a .ySlope) (b .ySlope) y ρ i }
+    λ i. record {
+      height = same-sound (a .height) (b .height) h ρ i;
+      xSlope = same-sound (a .xSlope) (b .xSlope) x ρ i;
+      ySlope = same-sound (a .ySlope) (b .ySlope) y ρ i;
+    }

@@ -1,9 +1,9 @@
 -- Fractions: equality is an equivalence that the operations respect, and the order respects it. Assumes nothing.
-use mathlib.Core.Path.{_≡_, refl, sym}
-use lib.IntN.{ℤ, pos, negℤ, _+ℤ_, _*ℤ_}
+use mathlib.Core.Path.{refl, sym}
+use lib.IntN.{ℤ, pos, negℤ, _*ℤ_}
 use mathlib.Core.Bool.{not}
 use lib.Dec.{T}
-use lib.Signed.{_≤ℤ_, leZ-yes}
+use lib.Signed.{leZ-yes}
 use Rattle.sibson.specs.Fraction.{Positive, ℚ, _≈_, _≤ℚ_, _+ℚ_, _-ℚ_, _*ℚ_, _·ℚ_, _÷_, leℚ, whole, half, complement}
 use mathlib.Core.List.{[], _∷_}
 use Rattle.sibson.specs.Sense.{FractionLaws}
@@ -93,7 +93,8 @@ pub ≈-÷-cancel : (n : Positive) {x y : ℚ} → x ÷ n ≈ y ÷ n → x ≈ y
 
 pub ≈-÷-zero : (n : Positive) {x : ℚ} → x ÷ n ≈ whole (pos 0) → x ≈ whole (pos 0)
 ≈-÷-zero n {x} e = record {
-  crossed = deduce 3 (λ a p n. (# 1 · (a ⊗ # 1 ≐ # 0 ⊗ (p ⊗ n))) ∷ [] ⊨ a ⊗ # 1 ≐ # 0 ⊗ p) tt (x .numerator) (pos (x .denominator .number)) (pos (n .number)) (e .crossed);
+  crossed = deduce 3 (λ a p n. (# 1 · (a ⊗ # 1 ≐ # 0 ⊗ (p ⊗ n))) ∷ [] ⊨ a ⊗ # 1 ≐ # 0 ⊗ p) tt
+      (x .numerator) (pos (x .denominator .number)) (pos (n .number)) (e .crossed);
 }
 
 pub ≈-÷-none : (n : Positive) → whole (pos 0) ÷ n ≈ whole (pos 0)
@@ -104,7 +105,8 @@ pub ≈-complement : {x y : ℚ} → x ≈ y → complement x ≈ complement y
 
 pub complement-complement : (x : ℚ) → complement (complement x) ≈ x
 complement-complement x = record {
-  crossed = solve 2 (λ a p. (# 1 ⊗ (# 1 ⊗ p) ⊕ ⊖ # 1 ⊗ (# 1 ⊗ p ⊕ ⊖ # 1 ⊗ a ⊗ # 1) ⊗ # 1) ⊗ p ≐ a ⊗ (# 1 ⊗ (# 1 ⊗ p))) tt (x .numerator) (pos (x .denominator .number));
+  crossed = solve 2 (λ a p. (# 1 ⊗ (# 1 ⊗ p) ⊕ ⊖ # 1 ⊗ (# 1 ⊗ p ⊕ ⊖ # 1 ⊗ a ⊗ # 1) ⊗ # 1) ⊗ p ≐ a ⊗ (# 1 ⊗ (# 1 ⊗ p))) tt
+      (x .numerator) (pos (x .denominator .number));
 }
 
 -- ---- the order
@@ -166,13 +168,15 @@ pub ≤-swap′ : {x y : ℚ} → complement x ≤ℚ y → complement y ≤ℚ 
 pub below-half : {x : ℚ} → x ≤ℚ complement x → x ≤ℚ half
 below-half {x} h = record {
   crossed = ≤ℤ-cancel-r (x .denominator .number) (x .denominator .above)
-      (deduce 2 (λ a p. (# 1 · (a ⊗ (# 1 ⊗ p) ≼ (# 1 ⊗ p ⊕ ⊖ # 1 ⊗ a ⊗ # 1) ⊗ p)) ∷ [] ⊨ a ⊗ # 2 ⊗ p ≼ # 1 ⊗ p ⊗ p) tt (x .numerator) (pos (x .denominator .number)) (h .crossed));
+      (deduce 2 (λ a p. (# 1 · (a ⊗ (# 1 ⊗ p) ≼ (# 1 ⊗ p ⊕ ⊖ # 1 ⊗ a ⊗ # 1) ⊗ p)) ∷ [] ⊨ a ⊗ # 2 ⊗ p ≼ # 1 ⊗ p ⊗ p) tt
+      (x .numerator) (pos (x .denominator .number)) (h .crossed));
 }
 
 pub above-half : {x : ℚ} → complement x ≤ℚ x → half ≤ℚ x
 above-half {x} h = record {
   crossed = ≤ℤ-cancel-r (x .denominator .number) (x .denominator .above)
-      (deduce 2 (λ a p. (# 1 · ((# 1 ⊗ p ⊕ ⊖ # 1 ⊗ a ⊗ # 1) ⊗ p ≼ a ⊗ (# 1 ⊗ p))) ∷ [] ⊨ # 1 ⊗ p ⊗ p ≼ a ⊗ # 2 ⊗ p) tt (x .numerator) (pos (x .denominator .number)) (h .crossed));
+      (deduce 2 (λ a p. (# 1 · ((# 1 ⊗ p ⊕ ⊖ # 1 ⊗ a ⊗ # 1) ⊗ p ≼ a ⊗ (# 1 ⊗ p))) ∷ [] ⊨ # 1 ⊗ p ⊗ p ≼ a ⊗ # 2 ⊗ p) tt
+      (x .numerator) (pos (x .denominator .number)) (h .crossed));
 }
 
 pub fraction-laws : FractionLaws
@@ -182,4 +186,7 @@ fraction-laws = record {
   transitive = λ x y z e f. ≈-trans e f;
   sums = λ x x′ y y′ e f. ≈-+ e f;
   products = λ x x′ y y′ e f. ≈-* e f;
+  multiples = λ c x. record { crossed = solve 3 (λ c a p. c ⊗ a ⊗ (# 1 ⊗ p) ≐ c ⊗ a ⊗ p) tt c (x .numerator) (pos (x .denominator .number)) };
+  quotients = λ x n. record { crossed = solve 3 (λ a p n. a ⊗ n ⊗ p ≐ a ⊗ (p ⊗ n ⊗ # 1)) tt (x .numerator) (pos (x .denominator .number)) (pos (n .number)) };
+  tests = λ x y. (≤-yes x y, λ h. ≤-test h);
 }

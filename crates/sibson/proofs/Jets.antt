@@ -1,6 +1,6 @@
 -- Heights and slopes: the same jet is an equivalence, a jet depends on its point as a pair of fractions, jets subtract. Assumes nothing.
-use lib.IntN.{ℤ, pos}
-use Rattle.sibson.specs.Fraction.{Positive, ℚ, _≈_, _+ℚ_, _-ℚ_, _*ℚ_, _·ℚ_, _÷_, whole}
+use lib.IntN.{pos}
+use Rattle.sibson.specs.Fraction.{ℚ, _≈_, _-ℚ_, whole}
 use Rattle.sibson.specs.Cubic.{Cell, Point, Cubic, value, byR, byS, Jet, jet, _≋_}
 use Rattle.sibson.proofs.Fractions.{≈-refl, ≈-sym, ≈-trans, ≈-+, ≈-*, ≈-·, ≈--, ≈-÷, ≈-minus, ≈-of-minus}
 

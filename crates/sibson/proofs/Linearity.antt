@@ -1,17 +1,16 @@
 -- No square term is a straight line: a cross-edge slope differs from the line between its ends by the square term times t (1 − t). Assumes nothing.
-use mathlib.Core.Path.{_≡_, refl, sym, _∙_, ap, subst}
-use mathlib.Core.Logic.{_↔_}
+use mathlib.Core.Path.{_≡_}
 use mathlib.Core.List.{[], _∷_}
-use lib.IntN.{ℤ, pos, negℤ, _+ℤ_, _*ℤ_}
+use lib.IntN.{ℤ, pos}
 use lib.Signed.{leZ-yes}
-use Prim.Native.Nat.{ℕ, _<_}
+use Prim.Native.Nat.{_<_}
 use native.Mathlib.Omega.{arith}
-use Rattle.sibson.specs.Fraction.{Positive, ℚ, _≈_, _≤ℚ_, _+ℚ_, _-ℚ_, _*ℚ_, _·ℚ_, _÷_, whole, half, complement}
-use Rattle.sibson.specs.Cubic.{Cell, Point, Cubic, value, byR, byS, jet}
+use Rattle.sibson.specs.Fraction.{Positive, ℚ, _≈_, _+ℚ_, _-ℚ_, _*ℚ_, _·ℚ_, _÷_, whole, half, complement}
+use Rattle.sibson.specs.Cubic.{Cell, Cubic, value, byR, byS, jet}
 use Rattle.sibson.specs.Piece.{Piece, top, right, bottom, left, edge}
 use Rattle.sibson.specs.Conditions.{squareTerm, squareInR, squareInS}
 use Rattle.sibson.specs.Sense.{crossSlope, Straight, Linearity}
-use Rattle.integers.proofs.Polynomial.{Expr, var, #_, _⊗_, _⊕_, ⊖_}
+use Rattle.integers.proofs.Polynomial.{var, #_, _⊗_, _⊕_, ⊖_}
 use Rattle.integers.proofs.Solve.{_≐_}
 use Rattle.integers.proofs.Deduce.{_·_, _⊨_, deduce}
 use Rattle.integers.proofs.Order.{*ℤ-cancel-r}
@@ -75,7 +74,8 @@ straight C k f e t _ _ =
 no-square : (C : Cell) (k : Piece) (f : Cubic) → Straight C k f → squareTerm k f ≡ pos 0
 unfolding Straight
 no-square C k f l = *ℤ-cancel-r 1 one>0
-    (nothing (line C k f half) (sag C k f half) (≈-trans {y = crossSlope C k f (edge k half)} (≈-sym (l half (record { crossed = leZ-yes tt }) (record { crossed = leZ-yes tt }))) (sagging C k f half)))
+    (nothing (line C k f half) (sag C k f half)
+    (≈-trans {y = crossSlope C k f (edge k half)} (≈-sym (l half (record { crossed = leZ-yes tt }) (record { crossed = leZ-yes tt }))) (sagging C k f half)))
   where
     one>0 : 0 < 1
     one>0 = omega arith

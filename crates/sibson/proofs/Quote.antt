@@ -46,6 +46,10 @@ x -ₑ y = x +ₑ ⊖ # 1 ·ₑ y
 abbrev pub _≈ₑ_ : Quotient → Quotient → Claim
 x ≈ₑ y = x .num ⊗ y .den ≐ y .num ⊗ x .den
 
+-- is 0
+abbrev pub nil : Expr → Claim
+nil e = e ≐ # 0
+
 -- ---- cubics
 
 pub record Cubicₑ : Type 0 where

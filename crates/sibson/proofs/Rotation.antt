@@ -1,19 +1,21 @@
 -- A quarter turn of the cell: the cubic at (1 − s, r). It takes each piece's place to the one before, and the conditions to themselves. Assumes nothing.
 use mathlib.Core.Path.{_≡_, refl}
+use mathlib.Core.Bool.{Bool}
 use mathlib.Core.List.{[], _∷_}
 use lib.Dec.{T}
-use lib.IntN.{ℤ, pos, negℤ, _+ℤ_, _*ℤ_}
-use Rattle.sibson.specs.Fraction.{ℚ, _≈_, _≤ℚ_, _·ℚ_, _÷_, whole, half, complement}
-use Rattle.sibson.specs.Cubic.{Cell, Point, Cubic, Power, one, r¹, s¹, r², rs, s², r³, r²s, rs², s³, coefficient, value, byR, byS, Jet, jet, _≋_}
+use lib.IntN.{pos, negℤ}
+use Rattle.sibson.specs.Fraction.{ℚ, _≈_, _·ℚ_, half, complement}
+use Rattle.sibson.specs.Cubic.{Cell, Point, Cubic, one, r¹, s¹, r², rs, s², r³, r²s, rs², s³, value, byR, byS, Jet, jet, _≋_}
 use Rattle.sibson.specs.Piece.{Piece, top, right, bottom, left, next, FourCubics, triangle, HalfDiagonal, Corner, leftTop, rightTop, leftBottom, rightBottom, at}
 use Rattle.sibson.specs.Conditions.{squareTerm, squareInR, squareInS}
 use Rattle.sibson.specs.Element.{transposed, flipped}
-use Rattle.integers.proofs.Polynomial.{#_, _⊗_, _⊕_, ⊖_}
-use Rattle.integers.proofs.Solve.{_≐_}
+use Rattle.integers.proofs.Polynomial.{#_, ⊖_}
 use Rattle.integers.proofs.Deduce.{_·_, certified-sound}
-use Rattle.sibson.proofs.Fractions.{≈-refl, ≈-sym, ≈-trans, ≈-·, ≈-÷, ≈-complement, ≤-left, ≤-right, ≤-complement}
+use Rattle.sibson.proofs.Fractions.{≈-sym, ≈-·, ≈-÷, ≈-complement, ≤-left, ≤-right, ≤-complement}
+use Rattle.sibson.proofs.Finite.{every-piece, everyCorner, every-corner, implies, implied}
 use Rattle.sibson.proofs.Jets.{≋-sym, ≋-trans, _≈ₚ_, jet-at, none}
-use Rattle.sibson.proofs.Quote.{Quotient, wholeₑ, _-ₑ_, _·ₑ_, Cubicₑ, valueₑ, byRₑ, bySₑ, transposedₑ, flippedₑ, squareₑ, equal, anyₑ, rₑ, sₑ, any, cubic}
+use Rattle.sibson.proofs.Coefficients.{Zero}
+use Rattle.sibson.proofs.Quote.{wholeₑ, _-ₑ_, _·ₑ_, nil, Cubicₑ, valueₑ, byRₑ, bySₑ, transposedₑ, flippedₑ, squareₑ, equal, anyₑ, rₑ, sₑ, any, cubic}
 
 unfoldable pub rotated : Cubic → Cubic
 rotated f = flipped (transposed f)
@@ -66,9 +68,11 @@ same-half = record { crossed = refl }
 
 diagonal-around : (k : Piece) (P : Point) → HalfDiagonal k P → HalfDiagonal (next k) (around P)
 unfolding HalfDiagonal next
-diagonal-around top P (e, l, u) = (≈-sym e, ≤-right (≤-left (≈-sym same-half) (≤-complement u)) (≈-sym e), ≤-left e (≤-right (≤-complement l) (record { crossed = refl })))
+diagonal-around top P (e, l, u) =
+    (≈-sym e, ≤-right (≤-left (≈-sym same-half) (≤-complement u)) (≈-sym e), ≤-left e (≤-right (≤-complement l) (record { crossed = refl })))
 diagonal-around right P (e, l, u) = (≈-complement (≈-sym e), ≤-right l (≈-sym e), ≤-left e u)
-diagonal-around bottom P (e, l, u) = (≈-sym e, ≤-right (≤-left (record { crossed = refl }) (≤-complement u)) (≈-sym e), ≤-left e (≤-right (≤-complement l) same-half))
+diagonal-around bottom P (e, l, u) =
+    (≈-sym e, ≤-right (≤-left (record { crossed = refl }) (≤-complement u)) (≈-sym e), ≤-left e (≤-right (≤-complement l) same-half))
 diagonal-around left P (e, l, u) = (≈-complement (≈-sym e), ≤-right l (≈-sym e), ≤-left e u)
 
 -- along one half diagonal
@@ -87,10 +91,10 @@ smooth-rotated C S k smooth P h =
 
 pub square-rotated : (k : Piece) (f : Cubic) → squareTerm (next k) f ≡ pos 0 → squareTerm k (rotated f) ≡ pos 0
 unfolding squareTerm squareInR squareInS next rotated flipped transposed byR byS
-square-rotated top f e = certified-sound ((⊖ # 1 · (squareₑ right anyₑ ≐ # 0)) ∷ []) (squareₑ top rotatedₑ ≐ # 0) tt (cubic f []) e
-square-rotated right f e = certified-sound ((# 1 · (squareₑ bottom anyₑ ≐ # 0)) ∷ []) (squareₑ right rotatedₑ ≐ # 0) tt (cubic f []) e
-square-rotated bottom f e = certified-sound ((⊖ # 1 · (squareₑ left anyₑ ≐ # 0)) ∷ []) (squareₑ bottom rotatedₑ ≐ # 0) tt (cubic f []) e
-square-rotated left f e = certified-sound ((# 1 · (squareₑ top anyₑ ≐ # 0)) ∷ []) (squareₑ left rotatedₑ ≐ # 0) tt (cubic f []) e
+square-rotated top f e = certified-sound ((⊖ # 1 · nil (squareₑ right anyₑ)) ∷ []) (nil (squareₑ top rotatedₑ)) tt (cubic f []) e
+square-rotated right f e = certified-sound ((# 1 · nil (squareₑ bottom anyₑ)) ∷ []) (nil (squareₑ right rotatedₑ)) tt (cubic f []) e
+square-rotated bottom f e = certified-sound ((⊖ # 1 · nil (squareₑ left anyₑ)) ∷ []) (nil (squareₑ bottom rotatedₑ)) tt (cubic f []) e
+square-rotated left f e = certified-sound ((# 1 · nil (squareₑ top anyₑ)) ∷ []) (nil (squareₑ left rotatedₑ)) tt (cubic f []) e
 
 -- ---- the corners
 
@@ -110,25 +114,13 @@ turned-point rightTop = record { rs = record { crossed = refl }; ss = record { c
 turned-point leftBottom = record { rs = record { crossed = refl }; ss = record { crossed = refl } }
 turned-point rightBottom = record { rs = record { crossed = refl }; ss = record { crossed = refl } }
 
--- a piece touches a corner as the next piece touches the turned one: both sides compute
+-- a piece touches a corner as the next piece touches the turned one
+abbrev keeps : Piece → Corner → Bool
+keeps k c = implies (triangle k (at c)) (triangle (next k) (at (turn c)))
+
 touches : (k : Piece) (c : Corner) → T (triangle k (at c)) → T (triangle (next k) (at (turn c)))
 unfolding next turn
-touches top leftTop t = t
-touches top rightTop t = t
-touches top leftBottom t = t
-touches top rightBottom t = t
-touches right leftTop t = t
-touches right rightTop t = t
-touches right leftBottom t = t
-touches right rightBottom t = t
-touches bottom leftTop t = t
-touches bottom rightTop t = t
-touches bottom leftBottom t = t
-touches bottom rightBottom t = t
-touches left leftTop t = t
-touches left rightTop t = t
-touches left leftBottom t = t
-touches left rightBottom t = t
+touches k c = implied (triangle k (at c)) (triangle (next k) (at (turn c))) (every-corner (keeps k) (every-piece (λ l. everyCorner (keeps l)) tt k) c)
 
 quarter-none : quarter none ≋ none
 unfolding none
@@ -139,22 +131,26 @@ unfolding NothingAtCorners rotatedSet
 corners-rotated C S h k c t =
     ≋-trans {j = jet (onSide C) (rotated (S (next k))) (at c)} {k = quarter (jet C (S (next k)) (around (at c)))} {l = none} (rotated-jet C (S (next k)) (at c))
     (≋-trans {j = quarter (jet C (S (next k)) (around (at c)))} {k = quarter none} {l = none}
-    (≋-quarter (≋-trans {j = jet C (S (next k)) (around (at c))} {k = jet C (S (next k)) (at (turn c))} {l = none} (jet-at C (S (next k)) (turned-point c)) (h (next k) (turn c) (touches k c t)))) quarter-none)
+    (≋-quarter (≋-trans {j = jet C (S (next k)) (around (at c))} {k = jet C (S (next k)) (at (turn c))} {l = none}
+    (jet-at C (S (next k)) (turned-point c)) (h (next k) (turn c) (touches k c t)))) quarter-none)
 
 -- ---- a cubic that is 0 when turned is 0
 
-unfoldable pub Zero : Cubic → Type 0
-Zero f = (p : Power) → coefficient f p ≡ pos 0
-
 pub zero-rotated : (f : Cubic) → Zero (rotated f) → Zero f
 unfolding Zero rotated flipped transposed
-zero-rotated f z one = certified-sound ((# 1 · (rotatedₑ .c00 ≐ # 0)) ∷ (# 1 · (rotatedₑ .c01 ≐ # 0)) ∷ (# 1 · (rotatedₑ .c02 ≐ # 0)) ∷ (# 1 · (rotatedₑ .c03 ≐ # 0)) ∷ []) (anyₑ .c00 ≐ # 0) tt (cubic f []) (z one) (z s¹) (z s²) (z s³)
-zero-rotated f z r¹ = certified-sound ((⊖ # 1 · (rotatedₑ .c01 ≐ # 0)) ∷ (⊖ # 2 · (rotatedₑ .c02 ≐ # 0)) ∷ (⊖ # 3 · (rotatedₑ .c03 ≐ # 0)) ∷ []) (anyₑ .c10 ≐ # 0) tt (cubic f []) (z s¹) (z s²) (z s³)
-zero-rotated f z s¹ = certified-sound ((# 1 · (rotatedₑ .c10 ≐ # 0)) ∷ (# 1 · (rotatedₑ .c11 ≐ # 0)) ∷ (# 1 · (rotatedₑ .c12 ≐ # 0)) ∷ []) (anyₑ .c01 ≐ # 0) tt (cubic f []) (z r¹) (z rs) (z rs²)
-zero-rotated f z r² = certified-sound ((# 1 · (rotatedₑ .c02 ≐ # 0)) ∷ (# 3 · (rotatedₑ .c03 ≐ # 0)) ∷ []) (anyₑ .c20 ≐ # 0) tt (cubic f []) (z s²) (z s³)
-zero-rotated f z rs = certified-sound ((⊖ # 1 · (rotatedₑ .c11 ≐ # 0)) ∷ (⊖ # 2 · (rotatedₑ .c12 ≐ # 0)) ∷ []) (anyₑ .c11 ≐ # 0) tt (cubic f []) (z rs) (z rs²)
-zero-rotated f z s² = certified-sound ((# 1 · (rotatedₑ .c20 ≐ # 0)) ∷ (# 1 · (rotatedₑ .c21 ≐ # 0)) ∷ []) (anyₑ .c02 ≐ # 0) tt (cubic f []) (z r²) (z r²s)
-zero-rotated f z r³ = certified-sound ((⊖ # 1 · (rotatedₑ .c03 ≐ # 0)) ∷ []) (anyₑ .c30 ≐ # 0) tt (cubic f []) (z s³)
-zero-rotated f z r²s = certified-sound ((# 1 · (rotatedₑ .c12 ≐ # 0)) ∷ []) (anyₑ .c21 ≐ # 0) tt (cubic f []) (z rs²)
-zero-rotated f z rs² = certified-sound ((⊖ # 1 · (rotatedₑ .c21 ≐ # 0)) ∷ []) (anyₑ .c12 ≐ # 0) tt (cubic f []) (z r²s)
-zero-rotated f z s³ = certified-sound ((# 1 · (rotatedₑ .c30 ≐ # 0)) ∷ []) (anyₑ .c03 ≐ # 0) tt (cubic f []) (z r³)
+zero-rotated f z one = certified-sound
+    ((# 1 · nil (rotatedₑ .c00)) ∷ (# 1 · nil (rotatedₑ .c01)) ∷ (# 1 · nil (rotatedₑ .c02)) ∷ (# 1 · nil (rotatedₑ .c03)) ∷ [])
+    (nil (anyₑ .c00)) tt (cubic f []) (z one) (z s¹) (z s²) (z s³)
+zero-rotated f z r¹ = certified-sound
+    ((⊖ # 1 · nil (rotatedₑ .c01)) ∷ (⊖ # 2 · nil (rotatedₑ .c02)) ∷ (⊖ # 3 · nil (rotatedₑ .c03)) ∷ [])
+    (nil (anyₑ .c10)) tt (cubic f []) (z s¹) (z s²) (z s³)
+zero-rotated f z s¹ = certified-sound
+    ((# 1 · nil (rotatedₑ .c10)) ∷ (# 1 · nil (rotatedₑ .c11)) ∷ (# 1 · nil (rotatedₑ .c12)) ∷ [])
+    (nil (anyₑ .c01)) tt (cubic f []) (z r¹) (z rs) (z rs²)
+zero-rotated f z r² = certified-sound ((# 1 · nil (rotatedₑ .c02)) ∷ (# 3 · nil (rotatedₑ .c03)) ∷ []) (nil (anyₑ .c20)) tt (cubic f []) (z s²) (z s³)
+zero-rotated f z rs = certified-sound ((⊖ # 1 · nil (rotatedₑ .c11)) ∷ (⊖ # 2 · nil (rotatedₑ .c12)) ∷ []) (nil (anyₑ .c11)) tt (cubic f []) (z rs) (z rs²)
+zero-rotated f z s² = certified-sound ((# 1 · nil (rotatedₑ .c20)) ∷ (# 1 · nil (rotatedₑ .c21)) ∷ []) (nil (anyₑ .c02)) tt (cubic f []) (z r²) (z r²s)
+zero-rotated f z r³ = certified-sound ((⊖ # 1 · nil (rotatedₑ .c03)) ∷ []) (nil (anyₑ .c30)) tt (cubic f []) (z s³)
+zero-rotated f z r²s = certified-sound ((# 1 · nil (rotatedₑ .c12)) ∷ []) (nil (anyₑ .c21)) tt (cubic f []) (z rs²)
+zero-rotated f z rs² = certified-sound ((⊖ # 1 · nil (rotatedₑ .c21)) ∷ []) (nil (anyₑ .c12)) tt (cubic f []) (z r²s)
+zero-rotated f z s³ = certified-sound ((# 1 · nil (rotatedₑ .c30)) ∷ []) (nil (anyₑ .c03)) tt (cubic f []) (z r³)

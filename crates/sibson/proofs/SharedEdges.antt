@@ -3,12 +3,12 @@
 use mathlib.Core.Path.{_≡_, refl, sym, subst, ap₂}
 use Prim.Native.Nat.{ℕ, _<_}
 use lib.IntN.{ℤ, pos, negℤ, _+ℤ_, _*ℤ_}
-use Rattle.sibson.specs.Fraction.{Positive, ℚ, _≈_, _+ℚ_, _-ℚ_, _*ℚ_, _·ℚ_, _÷_, whole, complement}
-use Rattle.sibson.specs.Cubic.{Cell, Point, Cubic, value, byR, byS, Jet, jet, _≋_}
-use Rattle.sibson.specs.Piece.{Piece, top, right, bottom, left, edge, Corner, leftTop, rightTop, leftBottom, rightBottom}
+use Rattle.sibson.specs.Fraction.{Positive, ℚ, _+ℚ_, _-ℚ_, _*ℚ_, _·ℚ_, _÷_, complement}
+use Rattle.sibson.specs.Cubic.{Cell, Point, Cubic, byR, byS, Jet, jet, _≋_}
+use Rattle.sibson.specs.Piece.{Piece, top, right, bottom, left, edge, leftTop, rightTop, leftBottom, rightBottom}
 use Rattle.sibson.specs.Element.{Corners, cornerNumbers, inOrder, column, weights, weighed, halved, transposed, flipped, mirrored, swap, negateX, negateY, exchanged, topDown, leftRight, onTop, onLeft, sibson, surface}
-use Rattle.sibson.specs.Theorems.{lengthOf, first, last, SharedEdge, AgreeAlong, Edges}
-use Rattle.integers.proofs.Polynomial.{Expr, #_, _⊕_, _⊗_, _⊝_, ⊖_}
+use Rattle.sibson.specs.Theorems.{lengthOf, first, last, AgreeAlong, Edges}
+use Rattle.integers.proofs.Polynomial.{Expr, #_, _⊕_, _⊗_, ⊖_}
 use Rattle.sibson.proofs.Fractions.{≈-÷}
 use Rattle.sibson.proofs.Jets.{≋-sym, ≋-trans}
 use Rattle.sibson.proofs.Quote.{Quotient, wholeₑ, _+ₑ_, _-ₑ_, _*ₑ_, _·ₑ_, _÷ₑ_, Cubicₑ, byRₑ, bySₑ, Jetₑ, decided, jets}
@@ -73,10 +73,14 @@ edgeₑ left = commonJetₑ (sibsonₑ nodesₑ left) (wholeₑ (# 0)) tₑ
 
 on-edge : (C : Cell) (m : Corners) (k : Piece) (t : ℚ) → jet C (surface C m k) (edge k t) ≋ onEdge k (lengthOf C k) (m (first k)) (m (last k)) t
 unfolding numerator cubes byR byS inOrder column weights weighed halved transposed flipped mirrored swap negateX negateY exchanged topDown leftRight onTop onLeft sibson surface cornerNumbers onEdge along turned
-on-edge C m top t = by-common C (surface C m top) (edge top t) (jets (decided (edgeₑ top) (alongₑ Wₑ (numbersₑ leftTop) (numbersₑ rightTop) tₑ) tt (given C t m)))
-on-edge C m right t = by-common C (surface C m right) (edge right t) (jets (decided (edgeₑ right) (downₑ (numbersₑ rightTop) (numbersₑ rightBottom)) tt (given C t m)))
-on-edge C m bottom t = by-common C (surface C m bottom) (edge bottom t) (jets (decided (edgeₑ bottom) (alongₑ Wₑ (numbersₑ leftBottom) (numbersₑ rightBottom) tₑ) tt (given C t m)))
-on-edge C m left t = by-common C (surface C m left) (edge left t) (jets (decided (edgeₑ left) (downₑ (numbersₑ leftTop) (numbersₑ leftBottom)) tt (given C t m)))
+on-edge C m top t = by-common C (surface C m top) (edge top t)
+    (jets (decided (edgeₑ top) (alongₑ Wₑ (numbersₑ leftTop) (numbersₑ rightTop) tₑ) tt (given C t m)))
+on-edge C m right t = by-common C (surface C m right) (edge right t)
+    (jets (decided (edgeₑ right) (downₑ (numbersₑ rightTop) (numbersₑ rightBottom)) tt (given C t m)))
+on-edge C m bottom t = by-common C (surface C m bottom) (edge bottom t)
+    (jets (decided (edgeₑ bottom) (alongₑ Wₑ (numbersₑ leftBottom) (numbersₑ rightBottom) tₑ) tt (given C t m)))
+on-edge C m left t = by-common C (surface C m left) (edge left t)
+    (jets (decided (edgeₑ left) (downₑ (numbersₑ leftTop) (numbersₑ leftBottom)) tt (given C t m)))
 
 -- ---- two cells
 

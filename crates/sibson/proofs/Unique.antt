@@ -1,15 +1,14 @@
 -- Two sets that meet the conditions are equal exactly when they agree at the corners; so the set we read from is the one. Assumes nothing.
-use mathlib.Core.Path.{_≡_}
-use lib.Dec.{T}
 use Rattle.sibson.specs.Fraction.{ℚ}
-use Rattle.sibson.specs.Cubic.{Cell, Point, Jet, jet, _≋_}
-use Rattle.sibson.specs.Piece.{Piece, next, FourCubics, triangle, Corner, at}
+use Rattle.sibson.specs.Cubic.{Cell, Jet, jet}
+use Rattle.sibson.specs.Piece.{next, FourCubics, Corner, at}
 use Rattle.sibson.specs.Conditions.{Smooth, Meets, SameCorners, Equal}
-use Rattle.sibson.specs.Element.{Corners, sibson}
+use Rattle.sibson.specs.Element.{sibson}
 use Rattle.sibson.specs.Theorems.{Uniqueness, Has, perPixel, Existence}
 use Rattle.sibson.proofs.Jets.{≋-sym, ≋-trans, _⊟_, none, ≋-⊟, ≋-minus, ≋-of-minus}
 use Rattle.sibson.proofs.Rotation.{NothingAtCorners}
-use Rattle.sibson.proofs.Difference.{difference, jet-difference, square-difference, equal-of-zero, zero-of-equal, zero-jet}
+use Rattle.sibson.proofs.Difference.{difference, jet-difference, square-difference, equal-of-zero, zero-of-equal}
+use Rattle.sibson.proofs.Coefficients.{zero-jet}
 use Rattle.sibson.proofs.Blank.{Blank, all-zero}
 use Rattle.sibson.proofs.Exists.{meets, numbers, nodes}
 

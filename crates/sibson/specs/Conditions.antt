@@ -12,7 +12,7 @@ squareInR g k = g .c20 +ℤ g .c21 *ℤ k
 unfoldable pub squareInS : Cubic → ℤ → ℤ
 squareInS g k = g .c02 +ℤ g .c12 *ℤ k
 
--- the square term of the cross-edge slope along the piece's edge: by s along top and bottom, by r along right and left
+-- the square term of the cross-edge slope along a piece's edge: of the derivative by s along top and bottom, of that by r along right and left
 unfoldable pub squareTerm : Piece → Cubic → ℤ
 squareTerm top f = squareInR (byS f) (pos 0)
 squareTerm right f = squareInS (byR f) (pos 1)
@@ -23,15 +23,15 @@ squareTerm left f = squareInS (byR f) (pos 0)
 unfoldable pub Smooth : Cell → FourCubics → Type 0
 Smooth C S = (k : Piece) (P : Point) → HalfDiagonal k P → jet C (S k) P ≋ jet C (S (next k)) P
 
--- the conditions
+-- the conditions on a set: smooth across the half diagonals, and no square term of the cross-edge slope along the four edges
 pub record Meets (C : Cell) (S : FourCubics) : Type 0 where
   pub smooth : Smooth C S
   pub linear : (k : Piece) → squareTerm k (S k) ≡ pos 0
 
--- the same height, x-slope and y-slope at the four corners; both pieces that touch a corner count
+-- the same height, x-slope and y-slope at the four corners: both pieces that touch a corner count
 unfoldable pub SameCorners : Cell → FourCubics → FourCubics → Type 0
 SameCorners C S S′ = (k : Piece) (c : Corner) → T (triangle k (at c)) → jet C (S k) (at c) ≋ jet C (S′ k) (at c)
 
--- equal sets: piece by piece
+-- equal sets: equal piece by piece
 unfoldable pub Equal : FourCubics → FourCubics → Type 0
 Equal S S′ = (k : Piece) → S k ≅ S′ k

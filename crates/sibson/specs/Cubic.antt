@@ -1,23 +1,23 @@
--- Cubics in a cell's own coordinates: value, derivatives, and what the server reads at a point. Assumes nothing.
+-- Cubics in a cell's own r and s: their values and derivatives, and the heights, slopes and bends that 01 takes from them. Assumes nothing.
 use Prim.Native.Nat.{ℕ}
 use lib.IntN.{ℤ, pos, _*ℤ_}
 use Rattle.sibson.specs.Fraction.{Positive, ℚ, _≈_, _+ℚ_, _*ℚ_, _·ℚ_, _÷_, whole}
 
--- a cell of width W and height H, in pixels
+-- a cell: its width W and height H in pixels, any whole numbers from 1
 pub record Cell : Type 0 where
   pub W : Positive
   pub H : Positive
 
--- a point, in the cell's own coordinates: 0 to 1 from the left edge to the right, and from the top edge to the bottom
+-- a point in the cell's own r and s: 0 to 1 from the left edge to the right, and from the top edge to the bottom
 pub record Point : Type 0 where
   pub r : ℚ
   pub s : ℚ
 
--- the pixel that lies a and b pixels from the left and the top edge
+-- the pixel that lies a and b pixels from the left and the top edge: r = a/W, s = b/H
 abbrev pub pixel : Cell → ℕ → ℕ → Point
 pixel C a b = record { r = whole (pos a) ÷ C .W; s = whole (pos b) ÷ C .H }
 
--- a cubic: the coefficient of rⁱsʲ is cij over the divisor
+-- a cubic: a polynomial in r and s of total degree at most 3, its ten coefficients whole numbers over a common divisor above 0; cij is that of rⁱsʲ
 pub record Cubic : Type 0 where
   pub c00 : ℤ
   pub c10 : ℤ
@@ -31,7 +31,7 @@ pub record Cubic : Type 0 where
   pub c03 : ℤ
   pub divisor : Positive
 
--- the ten powers, in 01's order
+-- the ten powers in 01's order (the monomials), and the coefficient of each
 pub data Power : Type 0 where
   one : Power
   r¹ : Power
@@ -60,7 +60,7 @@ coefficient f s³ = f .c03
 pub record _≅_ (f g : Cubic) : Type 0 where
   pub coefficients : (p : Power) → whole (coefficient f p) ÷ f .divisor ≈ whole (coefficient g p) ÷ g .divisor
 
--- the value at a point
+-- the value at a point: its height, in grains
 unfoldable pub value : Cubic → Point → ℚ
 value f P =
     (whole (f .c00) +ℚ f .c10 ·ℚ P .r +ℚ f .c01 ·ℚ P .s
@@ -100,13 +100,13 @@ byS f = record {
   divisor = f .divisor;
 }
 
--- a height with the x-slope and the y-slope
+-- a height with an x-slope and a y-slope (a 1-jet: value and gradient)
 pub record Jet (A : Type 0) : Type 0 where
   pub height : A
   pub xSlope : A
   pub ySlope : A
 
--- of a cubic at a point: the x-slope is the derivative by r over W, the y-slope that by s over H
+-- those of a cubic at a point: the x-slope is the derivative by r divided by W, the y-slope that by s divided by H
 unfoldable pub jet : Cell → Cubic → Point → Jet ℚ
 jet C f P = record {
   height = value f P;
@@ -121,7 +121,7 @@ pub record _≋_ (j k : Jet ℚ) : Type 0 where
   pub xSlopes : j .xSlope ≈ k .xSlope
   pub ySlopes : j .ySlope ≈ k .ySlope
 
--- the second derivatives per pixel (01: bend)
+-- a bend: the second derivatives per pixel, xx, xy and yy, in grains
 pub record Bend : Type 0 where
   pub xx : ℚ
   pub xy : ℚ

@@ -1,12 +1,11 @@
 -- The Sibson element: the set we read from. Piece 0 by its weights, the other pieces by turnings (symmetries of the cell). Assumes nothing.
 use mathlib.Core.List.{List, [], _∷_}
 use Prim.Native.Nat.{ℕ}
-use lib.Dec.{T}
 use lib.ListN.{getD}
 use lib.IntN.{ℤ, pos, negℤ, _+ℤ_, _*ℤ_}
-use Rattle.sibson.specs.Fraction.{ℚ, positive, whole, _÷_, complement}
-use Rattle.sibson.specs.Cubic.{Cell, Point, Cubic, Power, one, r¹, s¹, r², rs, s², r³, r²s, rs², s³, Jet, jet, _≋_}
-use Rattle.sibson.specs.Piece.{Piece, top, right, bottom, left, FourCubics, triangle, Corner, leftTop, rightTop, leftBottom, rightBottom, at}
+use Rattle.sibson.specs.Fraction.{positive}
+use Rattle.sibson.specs.Cubic.{Cell, Cubic, Power, one, r¹, s¹, r², rs, s², r³, r²s, rs², s³, Jet}
+use Rattle.sibson.specs.Piece.{top, right, bottom, left, FourCubics, Corner, leftTop, rightTop, leftBottom, rightBottom}
 
 -- twelve numbers, three for each corner. Of nodes: height in grains, slopes in grains per pixel
 abbrev pub Corners : Type 0

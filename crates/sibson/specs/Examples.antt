@@ -1,10 +1,10 @@
 -- The examples of 01 that concern one cell, as exact fractions before rounding. Assumes nothing.
 use mathlib.Core.List.{List, [], _∷_}
 use Prim.Native.Nat.{ℕ}
-use lib.IntN.{ℤ, pos}
-use Rattle.sibson.specs.Fraction.{ℚ, _≈_, whole, _÷_, positive}
-use Rattle.sibson.specs.Cubic.{Cell, pixel, Jet, jet, _≋_, Bend, bend}
-use Rattle.sibson.specs.Piece.{Piece, left, pieceAt, Corner, leftTop, rightTop, leftBottom, rightBottom}
+use lib.IntN.{ℤ}
+use Rattle.sibson.specs.Fraction.{_≈_, whole, _÷_, positive}
+use Rattle.sibson.specs.Cubic.{Cell, pixel, Jet, jet, _≋_, bend}
+use Rattle.sibson.specs.Piece.{Piece, left, pieceAt, leftTop, rightTop, leftBottom, rightBottom}
 use Rattle.sibson.specs.Element.{Corners, +_, −_, surface}
 use Rattle.sibson.specs.Theorems.{ofNode}
 

@@ -7,7 +7,7 @@ use lib.Dec.{T, ltb, ltb→lt}
 use lib.IntN.{ℤ, pos, negℤ, _+ℤ_, _*ℤ_}
 use lib.Signed.{_≤ℤ_, leZ}
 
--- a natural above 0
+-- a natural above 0: a denominator, a divisor, a width, a height
 pub record Positive : Type 0 where
   pub number : ℕ
   pub above : 0 < number
@@ -20,7 +20,7 @@ infixl 70 _*⁺_
 abbrev pub _*⁺_ : Positive → Positive → Positive
 m *⁺ n = record { number = m .number * n .number; above = mul-pos (m .above) (n .above) }
 
--- a fraction
+-- a fraction: a whole number over a natural above 0
 pub record ℚ : Type 0 where
   pub numerator : ℤ
   pub denominator : Positive
@@ -28,7 +28,7 @@ pub record ℚ : Type 0 where
 infix 20 _≈_ _≤ℚ_
 infixl 60 _+ℚ_ _-ℚ_
 infixl 70 _*ℚ_ _·ℚ_ _÷_
--- equal fractions
+-- equal as fractions
 pub record _≈_ (x y : ℚ) : Type 0 where
   pub crossed : x .numerator *ℤ pos (y .denominator .number) ≡ y .numerator *ℤ pos (x .denominator .number)
 
@@ -52,7 +52,7 @@ x +ℚ y = record {
 abbrev pub _*ℚ_ : ℚ → ℚ → ℚ
 x *ℚ y = record { numerator = x .numerator *ℤ y .numerator; denominator = x .denominator *⁺ y .denominator }
 
--- a whole multiple
+-- a whole multiple, and a fraction of it
 abbrev pub _·ℚ_ : ℤ → ℚ → ℚ
 c ·ℚ x = record { numerator = c *ℤ x .numerator; denominator = x .denominator }
 

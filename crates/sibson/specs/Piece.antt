@@ -1,11 +1,11 @@
--- The four pieces of a cell (the triangles of the Sibson split), their corners, edges and half diagonals. Assumes nothing.
-use mathlib.Core.Bool.{Bool, true, false, _&&_, cond}
+-- The four pieces of a cell (the triangles of the Sibson split), their half diagonals, edges and corners. Assumes nothing.
+use mathlib.Core.Bool.{Bool, _&&_, cond}
 use Prim.Native.Nat.{ℕ}
 use lib.IntN.{pos}
 use Rattle.sibson.specs.Fraction.{ℚ, _≈_, _≤ℚ_, leℚ, whole, half, complement}
 use Rattle.sibson.specs.Cubic.{Point, Cubic}
 
--- pieces 0 to 3, each named by the cell's edge that it lies on
+-- pieces 0 to 3: each lies on the cell's edge that it is named for
 pub data Piece : Type 0 where
   top : Piece
   right : Piece
@@ -18,7 +18,7 @@ number right = 1
 number bottom = 2
 number left = 3
 
--- 0 after 1, 1 after 2, 2 after 3, 3 after 0
+-- the piece after 0 is 1, after 1 is 2, after 2 is 3, after 3 is 0 (clockwise)
 unfoldable pub next : Piece → Piece
 next top = right
 next right = bottom
@@ -36,7 +36,7 @@ pub record InCell (P : Point) : Type 0 where
   pub fromTop : whole (pos 0) ≤ℚ P .s
   pub toBottom : P .s ≤ℚ whole (pos 1)
 
--- the piece's points among those of the cell, its borders included
+-- is a point of the cell in a piece? Borders count
 abbrev pub triangle : Piece → Point → Bool
 triangle top P = leℚ (P .s) (P .r) && leℚ (P .s) (complement (P .r))
 triangle right P = leℚ (P .s) (P .r) && leℚ (complement (P .s)) (P .r)
@@ -47,7 +47,7 @@ triangle left P = leℚ (P .r) (P .s) && leℚ (P .r) (complement (P .s))
 abbrev pub pieceAt : Point → Piece
 pieceAt P = cond (triangle top P) top (cond (triangle right P) right (cond (triangle bottom P) bottom left))
 
--- the half diagonal between a piece and the next, from the corner that both touch to the centre
+-- the half diagonal between a piece and the next: from the corner that both touch to the centre
 unfoldable pub HalfDiagonal : Piece → Point → Type 0
 HalfDiagonal top P = (P .r ≈ complement (P .s)) × (whole (pos 0) ≤ℚ P .s) × (P .s ≤ℚ half)
 HalfDiagonal right P = (P .r ≈ P .s) × (half ≤ℚ P .s) × (P .s ≤ℚ whole (pos 1))
@@ -61,7 +61,7 @@ edge right t = record { r = whole (pos 1); s = t }
 edge bottom t = record { r = t; s = whole (pos 1) }
 edge left t = record { r = whole (pos 0); s = t }
 
--- corners 00, 10, 01, 11
+-- corners 00, 10, 01 and 11
 pub data Corner : Type 0 where
   leftTop : Corner
   rightTop : Corner

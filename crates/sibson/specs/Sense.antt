@@ -1,23 +1,25 @@
 -- That the definitions mean what they say: derivatives, turnings, linear slopes, pieces. Assumes nothing.
 use mathlib.Core.Path.{_≡_}
 use mathlib.Core.Logic.{_↔_}
-use mathlib.Core.Bool.{Bool}
 use Prim.Native.Nat.{_≤_}
 use lib.Dec.{T}
-use lib.IntN.{pos}
-use Rattle.sibson.specs.Fraction.{ℚ, _≈_, _≤ℚ_, _+ℚ_, _*ℚ_, _÷_, positive, whole, complement}
+use lib.IntN.{ℤ, pos}
+use Rattle.sibson.specs.Fraction.{Positive, ℚ, _≈_, _≤ℚ_, leℚ, _+ℚ_, _*ℚ_, _·ℚ_, _÷_, positive, whole, complement}
 use Rattle.sibson.specs.Cubic.{Cell, Point, Cubic, value, byR, byS, jet, _≋_}
 use Rattle.sibson.specs.Piece.{Piece, top, right, bottom, left, number, next, FourCubics, InCell, triangle, pieceAt, HalfDiagonal, edge}
 use Rattle.sibson.specs.Conditions.{squareTerm, Smooth}
 use Rattle.sibson.specs.Element.{Corners, transposed, flipped, mirrored, exchanged, topDown, leftRight, sibson}
 
--- equality is an equivalence that the operations respect
+-- equality is an equivalence that sums and products respect; multiples, quotients and the test are what they are called
 pub record FractionLaws : Type 0 where
   pub reflexive : (x : ℚ) → x ≈ x
   pub symmetric : (x y : ℚ) → x ≈ y → y ≈ x
   pub transitive : (x y z : ℚ) → x ≈ y → y ≈ z → x ≈ z
   pub sums : (x x′ y y′ : ℚ) → x ≈ x′ → y ≈ y′ → x +ℚ y ≈ x′ +ℚ y′
   pub products : (x x′ y y′ : ℚ) → x ≈ x′ → y ≈ y′ → x *ℚ y ≈ x′ *ℚ y′
+  pub multiples : (c : ℤ) (x : ℚ) → c ·ℚ x ≈ whole c *ℚ x
+  pub quotients : (x : ℚ) (n : Positive) → x ÷ n *ℚ whole (pos (n .number)) ≈ x
+  pub tests : (x y : ℚ) → T (leℚ x y) ↔ (x ≤ℚ y)
 
 -- h f′ + h² (f″/2 + h f‴/6), for the derivatives by one of the coordinates
 unfoldable pub increment : (Cubic → Cubic) → Cubic → Point → ℚ → ℚ

@@ -2,9 +2,9 @@
 use mathlib.Core.Path.{_≡_}
 use mathlib.Core.Logic.{_↔_}
 use lib.Dec.{T}
-use lib.IntN.{ℤ, pos}
+use lib.IntN.{ℤ}
 use Rattle.sibson.specs.Fraction.{Positive, ℚ, whole, _÷_}
-use Rattle.sibson.specs.Cubic.{Cell, Point, Jet, jet, _≋_}
+use Rattle.sibson.specs.Cubic.{Cell, Jet, jet, _≋_}
 use Rattle.sibson.specs.Piece.{Piece, top, right, bottom, left, FourCubics, triangle, edge, Corner, leftTop, rightTop, leftBottom, rightBottom, at}
 use Rattle.sibson.specs.Conditions.{Meets, SameCorners, Equal}
 use Rattle.sibson.specs.Element.{Corners, sibson, surface}
