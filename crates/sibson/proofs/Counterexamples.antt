@@ -8,24 +8,28 @@ use native.Mathlib.Omega.{arith}
 use lib.Dec.{T, ltb, ltb→lt}
 use lib.ListN.{getD}
 use lib.IntN.{ℤ, pos, natAbs}
-use Rattle.sibson.specs.Fraction.{ℚ, positive, half}
-use Rattle.sibson.specs.Cubic.{Cell, Cubic, Power, one, r¹, s¹, r², rs, s², r³, r²s, rs², s³, coefficient, _≅_, byR, byS, jet, _≋_}
-use Rattle.sibson.specs.Piece.{Piece, top, right, bottom, left, number, next, FourCubics, triangle, Corner, leftTop, rightTop, leftBottom, rightBottom, at}
-use Rattle.sibson.specs.Conditions.{squareTerm, squareInR, squareInS, SameCorners, Equal}
+use Rattle.sibson.specs.Fraction.{Positive, positive}
+use Rattle.sibson.specs.Cubic.{Cell, Cubic, Power, one, r¹, s¹, r², rs, s², r³, r²s, rs², s³, coefficient, _≅_, jet}
+use Rattle.sibson.specs.Piece.{Piece, top, right, bottom, left, number, next, FourCubics, triangle, Corner, at}
+use Rattle.sibson.specs.Conditions.{squareTerm, SameCorners, Equal}
 use Rattle.sibson.specs.Element.{+_, −_}
+use Rattle.sibson.specs.Theorems.{perPixel}
 use Rattle.sibson.specs.Needed.{Counterexample, Needed}
 use Rattle.integers.proofs.Polynomial.{con, #_, _⊗_}
-use Rattle.integers.proofs.Solve.{_≐_, same, same-sound}
+use Rattle.integers.proofs.Solve.{_≐_}
 use Rattle.integers.proofs.Deduce.{_·_, _⊨_, deduce, both}
 use Rattle.sibson.proofs.Finite.{everyPiece, every-piece, everyCorner, every-corner, implies, implied, differs, apart, and}
-use Rattle.sibson.proofs.Jets.{≋-sym, ≋-trans, none, jet-at}
-use Rattle.sibson.proofs.Quote.{Cubicₑ, squareₑ, fraction}
-use Rattle.sibson.proofs.Evaluate.{numerator, numeratorsAt, by-numerators, none-at, flatₑ, three, sameThree, same-three}
-use Rattle.sibson.proofs.Exists.{onLine, onLineₑ, on-line, atₑ}
+use Rattle.sibson.proofs.Jets.{≋-sym, ≋-trans, none}
+use Rattle.sibson.proofs.Quote.{Cubicₑ}
+use Rattle.sibson.proofs.Evaluate.{zeroes, zeroes-none, flatₑ}
+use Rattle.sibson.proofs.Places.{joins, joined, SmoothAt, smooth-at, flat, no-square, has, has-numbers}
 use Rattle.sibson.proofs.Coefficients.{Zero}
-use Rattle.sibson.proofs.Rotation.{rotatedSet, onSide, SmoothAt, smooth-rotated, square-rotated, NothingAtCorners, corners-rotated, zero-rotated}
+use Rattle.sibson.proofs.Rotation.{rotatedSet, onSide, smooth-rotated, square-rotated, NothingAtCorners, corners-rotated, zero-rotated}
 
 -- ---- sets of whole coefficients, in the powers' order
+
+abbrev unit : Positive
+unit = positive 1 tt
 
 abbrev whole-cubic : List ℤ → Cubic
 whole-cubic c = record {
@@ -39,7 +43,7 @@ whole-cubic c = record {
   c21 = getD c 7 (pos 0);
   c12 = getD c 8 (pos 0);
   c03 = getD c 9 (pos 0);
-  divisor = positive 1 tt;
+  divisor = unit;
 }
 
 abbrev whole-cubicₑ : List ℤ → Cubicₑ
@@ -60,66 +64,18 @@ whole-cubicₑ c = record {
 abbrev Coefficients : Type 0
 Coefficients = Piece → List ℤ
 
-abbrev given : Cell → ℚ → List ℤ
-given C t = pos (C .W .number) ∷ pos (C .H .number) ∷ fraction t []
-
--- the two pieces at a half diagonal agree on its line
-abbrev joins : Coefficients → Piece → Bool
-joins c k = sameThree (onLineₑ k (whole-cubicₑ (c k))) (onLineₑ k (whole-cubicₑ (c (next k))))
-
-joined : (c : Coefficients) (C : Cell) (k : Piece) → T (joins c k) → (s : ℚ) → jet C (whole-cubic (c k)) (onLine k s) ≋ jet C (whole-cubic (c (next k))) (onLine k s)
-unfolding next numeratorsAt numerator byR byS
-joined c C top t s = by-numerators C (whole-cubic (c top)) (whole-cubic (c right)) (onLine top s) refl
-    (same-three (onLineₑ top (whole-cubicₑ (c top))) (onLineₑ top (whole-cubicₑ (c right))) t (given C s))
-joined c C right t s = by-numerators C (whole-cubic (c right)) (whole-cubic (c bottom)) (onLine right s) refl
-    (same-three (onLineₑ right (whole-cubicₑ (c right))) (onLineₑ right (whole-cubicₑ (c bottom))) t (given C s))
-joined c C bottom t s = by-numerators C (whole-cubic (c bottom)) (whole-cubic (c left)) (onLine bottom s) refl
-    (same-three (onLineₑ bottom (whole-cubicₑ (c bottom))) (onLineₑ bottom (whole-cubicₑ (c left))) t (given C s))
-joined c C left t s = by-numerators C (whole-cubic (c left)) (whole-cubic (c top)) (onLine left s) refl
-    (same-three (onLineₑ left (whole-cubicₑ (c left))) (onLineₑ left (whole-cubicₑ (c top))) t (given C s))
-
-smooth : (c : Coefficients) (C : Cell) (k : Piece) → T (joins c k) → SmoothAt C (λ l. whole-cubic (c l)) k
-smooth c C k t P h = let l = on-line k P h in let f = whole-cubic (c k) in let g = whole-cubic (c (next k)) in
-    ≋-trans {j = jet C f P} {k = jet C f (onLine k (P .s))} {l = jet C g P} (jet-at C f l)
-    (≋-trans {j = jet C f (onLine k (P .s))} {k = jet C g (onLine k (P .s))} {l = jet C g P} (joined c C k t (P .s)) (≋-sym (jet-at C g l)))
-
--- no square term along a piece's edge
-abbrev flat : Coefficients → Piece → Bool
-flat c k = same (squareₑ k (whole-cubicₑ (c k))) (# 0)
-
-linear : (c : Coefficients) (k : Piece) → T (flat c k) → squareTerm k (whole-cubic (c k)) ≡ pos 0
-unfolding squareTerm squareInR squareInS byR byS
-linear c top t = same-sound (squareₑ top (whole-cubicₑ (c top))) (# 0) t []
-linear c right t = same-sound (squareₑ right (whole-cubicₑ (c right))) (# 0) t []
-linear c bottom t = same-sound (squareₑ bottom (whole-cubicₑ (c bottom))) (# 0) t []
-linear c left t = same-sound (squareₑ left (whole-cubicₑ (c left))) (# 0) t []
+-- the same, quoted
+abbrev quoted : Coefficients → Piece → Cubicₑ
+quoted c k = whole-cubicₑ (c k)
 
 -- a piece has nothing at a corner that it touches
 abbrev bare : Coefficients → Piece → Corner → Bool
-bare c k v = implies (triangle k (at v)) (sameThree (atₑ v (whole-cubicₑ (c k))) flatₑ)
-
-is-flat : (C : Cell) (c : List ℤ) (v : Corner) → T (sameThree (atₑ v (whole-cubicₑ c)) flatₑ) →
-    three (given C half) (atₑ v (whole-cubicₑ c)) ≡ three (given C half) flatₑ
-is-flat C c v t = same-three (atₑ v (whole-cubicₑ c)) flatₑ t (given C half)
+bare c k v = implies (triangle k (at v)) (has (quoted c k) unit flatₑ v)
 
 nothing : (c : Coefficients) (C : Cell) → ((k : Piece) (v : Corner) → T (bare c k v)) → NothingAtCorners C (λ k. whole-cubic (c k))
-unfolding NothingAtCorners numeratorsAt numerator byR byS
-nothing c C b top leftTop t = none-at C (whole-cubic (c top)) (at leftTop) (is-flat C (c top) leftTop (b top leftTop))
-nothing c C b top rightTop t = none-at C (whole-cubic (c top)) (at rightTop) (is-flat C (c top) rightTop (b top rightTop))
-nothing c C b top leftBottom t = absurd t
-nothing c C b top rightBottom t = absurd t
-nothing c C b right leftTop t = absurd t
-nothing c C b right rightTop t = none-at C (whole-cubic (c right)) (at rightTop) (is-flat C (c right) rightTop (b right rightTop))
-nothing c C b right leftBottom t = absurd t
-nothing c C b right rightBottom t = none-at C (whole-cubic (c right)) (at rightBottom) (is-flat C (c right) rightBottom (b right rightBottom))
-nothing c C b bottom leftTop t = absurd t
-nothing c C b bottom rightTop t = absurd t
-nothing c C b bottom leftBottom t = none-at C (whole-cubic (c bottom)) (at leftBottom) (is-flat C (c bottom) leftBottom (b bottom leftBottom))
-nothing c C b bottom rightBottom t = none-at C (whole-cubic (c bottom)) (at rightBottom) (is-flat C (c bottom) rightBottom (b bottom rightBottom))
-nothing c C b left leftTop t = none-at C (whole-cubic (c left)) (at leftTop) (is-flat C (c left) leftTop (b left leftTop))
-nothing c C b left rightTop t = absurd t
-nothing c C b left leftBottom t = none-at C (whole-cubic (c left)) (at leftBottom) (is-flat C (c left) leftBottom (b left leftBottom))
-nothing c C b left rightBottom t = absurd t
+unfolding NothingAtCorners
+nothing c C b k v t = ≋-trans {j = jet C (whole-cubic (c k)) (at v)} {k = perPixel C zeroes} {l = none}
+    (has-numbers C [] (quoted c k) unit flatₑ v (implied (triangle k (at v)) (has (quoted c k) unit flatₑ v) (b k v) t)) (zeroes-none C)
 
 -- ---- witnesses
 
@@ -170,25 +126,25 @@ turned {C = C} d e w = record {
 
 -- from coefficients that pass the tests, with one coefficient that is not 0
 abbrev passes : Coefficients → (Piece → Bool) → (Piece → Bool) → Bool
-passes c diagonals edges = everyPiece (λ k. implies (diagonals k) (joins c k) && (implies (edges k) (flat c k) && everyCorner (λ v. bare c k v)))
+passes c diagonals edges = everyPiece (λ k. implies (diagonals k) (joins (quoted c) k) && (implies (edges k) (flat (quoted c) k) && everyCorner (λ v. bare c k v)))
 
 exhibit : (diagonals edges : Piece → Bool) (c : Coefficients) → T (passes c diagonals edges) →
     (k : Piece) (p : Power) → T (ltb 0 (natAbs (coefficient (whole-cubic (c k)) p))) → (C : Cell) → Witness (λ l. T (diagonals l)) (λ l. T (edges l)) C
 unfolding Zero
 exhibit diagonals edges c t k p n C = record {
   D = λ l. whole-cubic (c l);
-  smooth = λ l d. smooth c C l (implied (diagonals l) (joins c l) (parts l .0) d);
-  linear = λ l e. linear c l (implied (edges l) (flat c l) (parts l .1) e);
+  smooth = λ l e. smooth-at C (λ k. whole-cubic (c k)) l (joined C (quoted c) unit [] l (implied (diagonals l) (joins (quoted c) l) (parts l .0) e));
+  linear = λ l e. no-square [] (quoted c) unit l (implied (edges l) (flat (quoted c) l) (parts l .1) e);
   corners = nothing c C (λ l v. every-corner (λ u. bare c l u) (parts l .2) v);
   where-not = k;
   not-zero = λ z. nonzero (z p);
 }
   where
-    parts : (l : Piece) → T (implies (diagonals l) (joins c l)) × T (implies (edges l) (flat c l)) × T (everyCorner (λ v. bare c l v))
+    parts : (l : Piece) → T (implies (diagonals l) (joins (quoted c) l)) × T (implies (edges l) (flat (quoted c) l)) × T (everyCorner (λ v. bare c l v))
     parts l =
-        let (a, u) = both (implies (diagonals l) (joins c l)) (implies (edges l) (flat c l) && everyCorner (λ v. bare c l v))
-        (every-piece (λ k. implies (diagonals k) (joins c k) && (implies (edges k) (flat c k) && everyCorner (λ v. bare c k v))) t l) in
-        let (b, v) = both (implies (edges l) (flat c l)) (everyCorner (λ v. bare c l v)) u in (a, b, v)
+        let (a, u) = both (implies (diagonals l) (joins (quoted c) l)) (implies (edges l) (flat (quoted c) l) && everyCorner (λ v. bare c l v))
+        (every-piece (λ k. implies (diagonals k) (joins (quoted c) k) && (implies (edges k) (flat (quoted c) k) && everyCorner (λ v. bare c k v))) t l) in
+        let (b, v) = both (implies (edges l) (flat (quoted c) l)) (everyCorner (λ v. bare c l v)) u in (a, b, v)
 
     nonzero : ¬ (coefficient (whole-cubic (c k)) p ≡ pos 0)
     nonzero e = let h : 0 < natAbs (coefficient (whole-cubic (c k)) p) = ltb→lt 0 (natAbs (coefficient (whole-cubic (c k)) p)) n in
@@ -322,8 +278,8 @@ counterexample {C = C} w = record {
   S′ = λ k. whole-cubic (zeros k);
   meets = record { smooth = w .smooth; linear = w .linear };
   meets′ = record {
-    smooth = λ k t. smooth zeros C k (every-piece (joins zeros) tt k);
-    linear = λ k t. linear zeros k (every-piece (flat zeros) tt k);
+    smooth = λ k t. smooth-at C (λ l. whole-cubic (zeros l)) k (joined C (quoted zeros) unit [] k (every-piece (joins (quoted zeros)) tt k));
+    linear = λ k t. no-square [] (quoted zeros) unit k (every-piece (flat (quoted zeros)) tt k);
   };
   corners = λ k c t. ≋-trans {j = jet C (w .D k) (at c)} {k = none} {l = jet C (whole-cubic (zeros k)) (at c)} (w .corners k c t)
       (≋-sym (nothing zeros C (λ l v. every-corner (λ u. bare zeros l u) (every-piece (λ m. everyCorner (λ u. bare zeros m u)) tt l) v) k c t));

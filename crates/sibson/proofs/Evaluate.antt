@@ -100,16 +100,18 @@ by-numbers C f P n e = record {
     })
 
 -- nothing
-abbrev pub flat : Jet ℤ
-flat = record { height = pos 0; xSlope = pos 0; ySlope = pos 0 }
+abbrev pub zeroes : Jet ℤ
+zeroes = record { height = pos 0; xSlope = pos 0; ySlope = pos 0 }
 
-pub none-at : (C : Cell) (f : Cubic) (P : Point) → numeratorsAt f P ≡ flat → jet C f P ≋ none
+pub zeroes-none : (C : Cell) → perPixel C zeroes ≋ none
 unfolding none perPixel
-none-at C f P e = ≋-trans {j = jet C f P} {k = perPixel C flat} {l = none} (by-numbers C f P flat (e ∙ flat-times))
-    (record { heights = ≈-refl (whole (pos 0)); xSlopes = ≈-÷-none (C .W); ySlopes = ≈-÷-none (C .H) })
+zeroes-none C = record { heights = ≈-refl (whole (pos 0)); xSlopes = ≈-÷-none (C .W); ySlopes = ≈-÷-none (C .H) }
+
+pub none-at : (C : Cell) (f : Cubic) (P : Point) → numeratorsAt f P ≡ zeroes → jet C f P ≋ none
+none-at C f P e = ≋-trans {j = jet C f P} {k = perPixel C zeroes} {l = none} (by-numbers C f P zeroes (e ∙ no-times)) (zeroes-none C)
   where
-    flat-times : flat ≡ times (pos (f .divisor .number * cubes P .number)) flat
-    flat-times = λ i. let z = sym (zero-*ℤ (pos (f .divisor .number * cubes P .number))) in record { height = z i; xSlope = z i; ySlope = z i }
+    no-times : zeroes ≡ times (pos (f .divisor .number * cubes P .number)) zeroes
+    no-times = λ i. let z = sym (zero-*ℤ (pos (f .divisor .number * cubes P .number))) in record { height = z i; xSlope = z i; ySlope = z i }
 
 -- ---- the same, quoted and decided
 

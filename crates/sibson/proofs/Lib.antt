@@ -4,6 +4,7 @@ pub mod Jets
 pub mod Evaluate
 pub mod QuoteElement
 pub mod Finite
+pub mod Places
 pub mod Coefficients
 pub mod Exists
 pub mod SharedEdges
@@ -17,4 +18,4 @@ pub mod Blank
 pub mod Difference
 pub mod Unique
 pub mod Counterexamples
-pub mod Examples
+pub mod Worked

@@ -1,18 +1,18 @@
 -- The set we read from is the source's formulas. Assumes nothing.
-use mathlib.Core.Path.{_≡_, refl}
+use mathlib.Core.Path.{_≡_, refl, _∙_, ap}
 use mathlib.Core.List.{List}
 use lib.IntN.{ℤ, pos}
-use Rattle.sibson.specs.Fraction.{_≈_, complement}
+use Rattle.sibson.specs.Fraction.{_≈_, positive, complement}
 use Rattle.sibson.specs.Cubic.{Point, value}
 use Rattle.sibson.specs.Piece.{Piece, top, right, bottom, left}
-use Rattle.sibson.specs.Element.{Corners, inOrder, column, weights, weighed, halved, transposed, flipped, mirrored, swap, negateX, negateY, exchanged, topDown, leftRight, onTop, onLeft, sibson}
+use Rattle.sibson.specs.Element.{Corners, inOrder, column, weights, weighed, halved, transposed, flipped, mirrored, swap, exchanged, onTop, onLeft, sibson}
 use Rattle.sibson.specs.Source.{formula, row, table, source, Sources}
 use Rattle.integers.proofs.Polynomial.{Expr, #_, _⊗_}
 use Rattle.integers.proofs.Solve.{_≐_, same-sound, solve}
 use Rattle.integers.proofs.Order.{pos-inj}
-use Rattle.sibson.proofs.Quote.{Quotient, fractionₑ, fraction, wholeₑ, _-ₑ_}
+use Rattle.sibson.proofs.Quote.{Quotient, evaluated, fractionₑ, fraction, wholeₑ, _-ₑ_}
 use Rattle.sibson.proofs.Evaluate.{numerator, cubes, by-numerator, numeratorₑ}
-use Rattle.sibson.proofs.QuoteElement.{halvedₑ, sibsonₑ, numbersₑ}
+use Rattle.sibson.proofs.QuoteElement.{halvedₑ, numbersₑ, elementₑ, sibson-is}
 
 -- ---- variables: 0 / 1 is r, 2 / 3 is s, from 4 on the twelve numbers
 
@@ -31,12 +31,16 @@ printedₑ right = numeratorₑ (halvedₑ (table right) numbersₑ) (wholeₑ (
 printedₑ bottom = numeratorₑ (halvedₑ (table bottom) numbersₑ) (wholeₑ (# 1) -ₑ rₑ) (wholeₑ (# 1) -ₑ sₑ)
 printedₑ left = numeratorₑ (halvedₑ (table left) numbersₑ) rₑ sₑ
 
+same-numerators : (k : Piece) (n : Corners) (P : Point) → numerator (evaluated (given P n) (elementₑ k) (positive 2 tt)) P ≡ numerator (halved (table k) n) (source k P)
+unfolding numerator inOrder column weights weighed halved swap exchanged formula row table source
+same-numerators top n P = same-sound (numeratorₑ (elementₑ top) rₑ sₑ) (printedₑ top) tt (given P n)
+same-numerators right n P = same-sound (numeratorₑ (elementₑ right) rₑ sₑ) (printedₑ right) tt (given P n)
+same-numerators bottom n P = same-sound (numeratorₑ (elementₑ bottom) rₑ sₑ) (printedₑ bottom) tt (given P n)
+same-numerators left n P = same-sound (numeratorₑ (elementₑ left) rₑ sₑ) (printedₑ left) tt (given P n)
+
 numerators : (k : Piece) (n : Corners) (P : Point) → numerator (sibson n k) P ≡ numerator (halved (table k) n) (source k P)
-unfolding numerator inOrder column weights weighed halved transposed flipped mirrored swap negateX negateY exchanged topDown leftRight onTop onLeft sibson formula row table source
-numerators top n P = same-sound (numeratorₑ (sibsonₑ numbersₑ top) rₑ sₑ) (printedₑ top) tt (given P n)
-numerators right n P = same-sound (numeratorₑ (sibsonₑ numbersₑ right) rₑ sₑ) (printedₑ right) tt (given P n)
-numerators bottom n P = same-sound (numeratorₑ (sibsonₑ numbersₑ bottom) rₑ sₑ) (printedₑ bottom) tt (given P n)
-numerators left n P = same-sound (numeratorₑ (sibsonₑ numbersₑ left) rₑ sₑ) (printedₑ left) tt (given P n)
+numerators k n P = ap (λ f. numerator f P) (sibson-is (P .r .numerator) (pos (P .r .denominator .number)) (P .s .numerator) (pos (P .s .denominator .number)) n k)
+    ∙ same-numerators k n P
 
 -- the point and its complement have one denominator
 complement-cubes : (P : Point) → cubes P .number ≡ cubes (record { r = complement (P .r); s = complement (P .s) }) .number

@@ -5,10 +5,10 @@ use mathlib.Core.List.{List, _∷_}
 use lib.Dec.{T}
 use lib.IntN.{ℤ, pos, _*ℤ_}
 use Prim.Native.Nat.{ℕ, _+_}
-use Rattle.integers.proofs.Polynomial.{Expr, var, #_, _⊕_, _⊗_, ⊖_}
+use Rattle.integers.proofs.Polynomial.{Expr, var, #_, _⊕_, _⊗_, ⊖_, eval}
 use Rattle.integers.proofs.Solve.{Claim, _≐_, Holds, same, same-sound}
 use Rattle.integers.proofs.Deduce.{both}
-use Rattle.sibson.specs.Fraction.{ℚ}
+use Rattle.sibson.specs.Fraction.{Positive, ℚ}
 use Rattle.sibson.specs.Cubic.{Point, Cubic, Jet, _≋_}
 use Rattle.sibson.specs.Piece.{Piece, top, right, bottom, left}
 
@@ -130,6 +130,22 @@ flippedₑ f = record {
   c12 = f .c12;
   c03 = ⊖ (f .c03);
   divisor = f .divisor;
+}
+
+-- a quoted cubic at given numbers, over a divisor
+abbrev pub evaluated : List ℤ → Cubicₑ → Positive → Cubic
+evaluated ρ f d = record {
+  c00 = eval ρ (f .c00);
+  c10 = eval ρ (f .c10);
+  c01 = eval ρ (f .c01);
+  c20 = eval ρ (f .c20);
+  c11 = eval ρ (f .c11);
+  c02 = eval ρ (f .c02);
+  c30 = eval ρ (f .c30);
+  c21 = eval ρ (f .c21);
+  c12 = eval ρ (f .c12);
+  c03 = eval ρ (f .c03);
+  divisor = d;
 }
 
 -- the square term along a piece's edge

@@ -1,13 +1,14 @@
 -- The set we read from as expressions, so that what is claimed of it can be decided. Assumes nothing.
+use mathlib.Core.Path.{_≡_, refl}
 use mathlib.Core.List.{List, [], _∷_}
 use lib.ListN.{getD}
 use lib.IntN.{ℤ, pos}
-use Rattle.sibson.specs.Fraction.{ℚ}
-use Rattle.sibson.specs.Cubic.{Cell, Power, one, r¹, s¹, r², rs, s², r³, r²s, rs², s³, Jet}
+use Rattle.sibson.specs.Fraction.{positive}
+use Rattle.sibson.specs.Cubic.{Power, one, r¹, s¹, r², rs, s², r³, r²s, rs², s³, Jet}
 use Rattle.sibson.specs.Piece.{Piece, top, right, bottom, left, Corner, leftTop, rightTop, leftBottom, rightBottom}
-use Rattle.sibson.specs.Element.{Corners, inOrder, column, weights, exchanged}
+use Rattle.sibson.specs.Element.{Corners, inOrder, column, weights, weighed, halved, transposed, flipped, mirrored, swap, negateX, negateY, exchanged, topDown, leftRight, onTop, onLeft, sibson}
 use Rattle.integers.proofs.Polynomial.{Expr, var, con, #_, _⊕_, _⊗_, ⊖_}
-use Rattle.sibson.proofs.Quote.{Quotient, _/ₑ_, Cubicₑ, transposedₑ, flippedₑ}
+use Rattle.sibson.proofs.Quote.{Cubicₑ, transposedₑ, flippedₑ, evaluated}
 
 abbrev pub Cornersₑ : Type 0
 Cornersₑ = Corner → Jet Expr
@@ -62,16 +63,7 @@ sibsonₑ n right = transposedₑ (flippedₑ (transposedₑ (onLeftₑ (leftRig
 sibsonₑ n bottom = flippedₑ (onTopₑ (topDownₑ n))
 sibsonₑ n left = onLeftₑ n
 
--- ---- variables: 0 is W, 1 is H, 2 / 3 is a fraction t, from 4 on the twelve numbers
-
-abbrev pub Wₑ : Expr
-Wₑ = var 0
-
-abbrev pub Hₑ : Expr
-Hₑ = var 1
-
-abbrev pub tₑ : Quotient
-tₑ = var 2 /ₑ var 3
+-- ---- variables from 4 on: the twelve numbers
 
 abbrev pub numbersₑ : Cornersₑ
 numbersₑ leftTop = record { height = var 4; xSlope = var 5; ySlope = var 6 }
@@ -79,5 +71,13 @@ numbersₑ rightTop = record { height = var 7; xSlope = var 8; ySlope = var 9 }
 numbersₑ leftBottom = record { height = var 10; xSlope = var 11; ySlope = var 12 }
 numbersₑ rightBottom = record { height = var 13; xSlope = var 14; ySlope = var 15 }
 
-abbrev pub given : Cell → ℚ → Corners → List ℤ
-given C t n = pos (C .W .number) ∷ pos (C .H .number) ∷ t .numerator ∷ pos (t .denominator .number) ∷ inOrder n
+abbrev pub elementₑ : Piece → Cubicₑ
+elementₑ k = sibsonₑ numbersₑ k
+
+-- the quotation is right, whatever the first four variables
+pub sibson-is : (x y z w : ℤ) (n : Corners) (k : Piece) → sibson n k ≡ evaluated (x ∷ y ∷ z ∷ w ∷ inOrder n) (elementₑ k) (positive 2 tt)
+unfolding inOrder column weights weighed halved transposed flipped mirrored swap negateX negateY exchanged topDown leftRight onTop onLeft sibson
+sibson-is x y z w n top = refl
+sibson-is x y z w n right = refl
+sibson-is x y z w n bottom = refl
+sibson-is x y z w n left = refl

@@ -15,6 +15,7 @@ use Rattle.sibson.proofs.Fractions.{≈-sym, ≈-·, ≈-÷, ≈-comple
 use Rattle.sibson.proofs.Finite.{every-piece, everyCorner, every-corner, implies, implied}
 use Rattle.sibson.proofs.Jets.{≋-sym, ≋-trans, _≈ₚ_, jet-at, none}
 use Rattle.sibson.proofs.Coefficients.{Zero}
+use Rattle.sibson.proofs.Places.{SmoothAt}
 use Rattle.sibson.proofs.Quote.{wholeₑ, _-ₑ_, _·ₑ_, nil, Cubicₑ, valueₑ, byRₑ, bySₑ, transposedₑ, flippedₑ, squareₑ, equal, anyₑ, rₑ, sₑ, any, cubic}
 
 unfoldable pub rotated : Cubic → Cubic
@@ -74,10 +75,6 @@ diagonal-around right P (e, l, u) = (≈-complement (≈-sym e), ≤-right l (�
 diagonal-around bottom P (e, l, u) =
     (≈-sym e, ≤-right (≤-left (record { crossed = refl }) (≤-complement u)) (≈-sym e), ≤-left e (≤-right (≤-complement l) same-half))
 diagonal-around left P (e, l, u) = (≈-complement (≈-sym e), ≤-right l (≈-sym e), ≤-left e u)
-
--- along one half diagonal
-abbrev pub SmoothAt : Cell → FourCubics → Piece → Type 0
-SmoothAt C S k = (P : Point) → HalfDiagonal k P → jet C (S k) P ≋ jet C (S (next k)) P
 
 pub smooth-rotated : (C : Cell) (S : FourCubics) (k : Piece) → SmoothAt C S (next k) → SmoothAt (onSide C) (rotatedSet S) k
 unfolding rotatedSet

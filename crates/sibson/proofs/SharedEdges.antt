@@ -3,7 +3,7 @@
 use mathlib.Core.Path.{_≡_, refl, sym, subst, ap₂}
 use Prim.Native.Nat.{ℕ, _<_}
 use lib.IntN.{ℤ, pos, negℤ, _+ℤ_, _*ℤ_}
-use Rattle.sibson.specs.Fraction.{Positive, ℚ, _+ℚ_, _-ℚ_, _*ℚ_, _·ℚ_, _÷_, complement}
+use Rattle.sibson.specs.Fraction.{Positive, positive, ℚ, _+ℚ_, _-ℚ_, _*ℚ_, _·ℚ_, _÷_, complement}
 use Rattle.sibson.specs.Cubic.{Cell, Point, Cubic, byR, byS, Jet, jet, _≋_}
 use Rattle.sibson.specs.Piece.{Piece, top, right, bottom, left, edge, leftTop, rightTop, leftBottom, rightBottom}
 use Rattle.sibson.specs.Element.{Corners, cornerNumbers, inOrder, column, weights, weighed, halved, transposed, flipped, mirrored, swap, negateX, negateY, exchanged, topDown, leftRight, onTop, onLeft, sibson, surface}
@@ -11,9 +11,10 @@ use Rattle.sibson.specs.Theorems.{lengthOf, first, last, AgreeAlong, Edg
 use Rattle.integers.proofs.Polynomial.{Expr, #_, _⊕_, _⊗_, ⊖_}
 use Rattle.sibson.proofs.Fractions.{≈-÷}
 use Rattle.sibson.proofs.Jets.{≋-sym, ≋-trans}
-use Rattle.sibson.proofs.Quote.{Quotient, wholeₑ, _+ₑ_, _-ₑ_, _*ₑ_, _·ₑ_, _÷ₑ_, Cubicₑ, byRₑ, bySₑ, Jetₑ, decided, jets}
+use Rattle.sibson.proofs.Quote.{Quotient, wholeₑ, _+ₑ_, _-ₑ_, _*ₑ_, _·ₑ_, _÷ₑ_, Cubicₑ, byRₑ, bySₑ, Jetₑ, decided, jets, evaluated}
 use Rattle.sibson.proofs.Evaluate.{numerator, cubes, common, value-is, commonₑ}
-use Rattle.sibson.proofs.QuoteElement.{Cornersₑ, sibsonₑ, numbersₑ, Wₑ, Hₑ, tₑ, given}
+use Rattle.sibson.proofs.QuoteElement.{Cornersₑ, sibsonₑ, numbersₑ}
+use Rattle.sibson.proofs.Places.{Wₑ, Hₑ, tₑ, given}
 
 -- along an edge of length L from node a to node b, the slope along it first
 unfoldable pub along : Positive → Jet ℤ → Jet ℤ → ℚ → Jet ℚ
@@ -71,16 +72,28 @@ edgeₑ right = commonJetₑ (sibsonₑ nodesₑ right) (wholeₑ (# 1)) tₑ
 edgeₑ bottom = commonJetₑ (sibsonₑ nodesₑ bottom) tₑ (wholeₑ (# 1))
 edgeₑ left = commonJetₑ (sibsonₑ nodesₑ left) (wholeₑ (# 0)) tₑ
 
-on-edge : (C : Cell) (m : Corners) (k : Piece) (t : ℚ) → jet C (surface C m k) (edge k t) ≋ onEdge k (lengthOf C k) (m (first k)) (m (last k)) t
-unfolding numerator cubes byR byS inOrder column weights weighed halved transposed flipped mirrored swap negateX negateY exchanged topDown leftRight onTop onLeft sibson surface cornerNumbers onEdge along turned
-on-edge C m top t = by-common C (surface C m top) (edge top t)
-    (jets (decided (edgeₑ top) (alongₑ Wₑ (numbersₑ leftTop) (numbersₑ rightTop) tₑ) tt (given C t m)))
-on-edge C m right t = by-common C (surface C m right) (edge right t)
-    (jets (decided (edgeₑ right) (downₑ (numbersₑ rightTop) (numbersₑ rightBottom)) tt (given C t m)))
-on-edge C m bottom t = by-common C (surface C m bottom) (edge bottom t)
-    (jets (decided (edgeₑ bottom) (alongₑ Wₑ (numbersₑ leftBottom) (numbersₑ rightBottom) tₑ) tt (given C t m)))
-on-edge C m left t = by-common C (surface C m left) (edge left t)
-    (jets (decided (edgeₑ left) (downₑ (numbersₑ leftTop) (numbersₑ leftBottom)) tt (given C t m)))
+-- the set for nodes, by its quotation
+nodes-are : (C : Cell) (m : Corners) (k : Piece) (t : ℚ) → surface C m k ≡ evaluated (given C t (inOrder m)) (sibsonₑ nodesₑ k) (positive 2 tt)
+unfolding inOrder column weights weighed halved transposed flipped mirrored swap negateX negateY exchanged topDown leftRight onTop onLeft sibson surface cornerNumbers
+nodes-are C m top t = refl
+nodes-are C m right t = refl
+nodes-are C m bottom t = refl
+nodes-are C m left t = refl
+
+on-edge : (C : Cell) (m : Corners) (k : Piece) (t : ℚ) →
+    jet C (evaluated (given C t (inOrder m)) (sibsonₑ nodesₑ k) (positive 2 tt)) (edge k t) ≋ onEdge k (lengthOf C k) (m (first k)) (m (last k)) t
+unfolding numerator cubes byR byS inOrder column weights swap exchanged onEdge along turned
+on-edge C m top t = by-common C _ (edge top t)
+    (jets (decided (edgeₑ top) (alongₑ Wₑ (numbersₑ leftTop) (numbersₑ rightTop) tₑ) tt (given C t (inOrder m))))
+on-edge C m right t = by-common C _ (edge right t)
+    (jets (decided (edgeₑ right) (downₑ (numbersₑ rightTop) (numbersₑ rightBottom)) tt (given C t (inOrder m))))
+on-edge C m bottom t = by-common C _ (edge bottom t)
+    (jets (decided (edgeₑ bottom) (alongₑ Wₑ (numbersₑ leftBottom) (numbersₑ rightBottom) tₑ) tt (given C t (inOrder m))))
+on-edge C m left t = by-common C _ (edge left t)
+    (jets (decided (edgeₑ left) (downₑ (numbersₑ leftTop) (numbersₑ leftBottom)) tt (given C t (inOrder m))))
+
+on-edges : (C : Cell) (m : Corners) (k : Piece) (t : ℚ) → jet C (surface C m k) (edge k t) ≋ onEdge k (lengthOf C k) (m (first k)) (m (last k)) t
+on-edges C m k t = subst (λ f. jet C f (edge k t) ≋ onEdge k (lengthOf C k) (m (first k)) (m (last k)) t) (sym (nodes-are C m k t)) (on-edge C m k t)
 
 -- ---- two cells
 
@@ -100,11 +113,11 @@ same-length k L L′ a b t e =
 agree-along : (k l : Piece) → ((L : Positive) (a b : Jet ℤ) (t : ℚ) → onEdge k L a b t ≡ onEdge l L a b t) → AgreeAlong k l
 unfolding AgreeAlong
 agree-along k l alike C D m n e t =
-    ≋-trans {j = jet C (surface C m k) (edge k t)} {k = here (m (first k)) (m (last k)) (lengthOf C k)} {l = jet D (surface D n l) (edge l t)} (on-edge C m k t)
+    ≋-trans {j = jet C (surface C m k) (edge k t)} {k = here (m (first k)) (m (last k)) (lengthOf C k)} {l = jet D (surface D n l) (edge l t)} (on-edges C m k t)
     (subst (λ j. j ≋ jet D (surface D n l) (edge l t)) nodes
     (≋-trans {j = here (n (first l)) (n (last l)) (lengthOf C k)} {k = here (n (first l)) (n (last l)) (lengthOf D l)} {l = jet D (surface D n l) (edge l t)}
     (same-length k (lengthOf C k) (lengthOf D l) (n (first l)) (n (last l)) t (e .lengths))
-    (subst (λ j. j ≋ jet D (surface D n l) (edge l t)) (sym (alike (lengthOf D l) (n (first l)) (n (last l)) t)) (≋-sym (on-edge D n l t)))))
+    (subst (λ j. j ≋ jet D (surface D n l) (edge l t)) (sym (alike (lengthOf D l) (n (first l)) (n (last l)) t)) (≋-sym (on-edges D n l t)))))
   where
     here : Jet ℤ → Jet ℤ → Positive → Jet ℚ
     here a b L = onEdge k L a b t

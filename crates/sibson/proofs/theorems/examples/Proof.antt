@@ -1,6 +1,6 @@
 -- `sibson::theorems::examples`: the examples of 01. Assumes nothing.
 use mathlib.Core.Path.{refl}
-use Rattle.sibson.proofs.Examples.{examples}
+use Rattle.sibson.proofs.Worked.{examples}
 use Rattle.sibson.proofs.theorems.examples.Statement.{statement}
 use Rattle.sibson.proofs.theorems.examples.Tie as tie
 
