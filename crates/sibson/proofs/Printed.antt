@@ -68,4 +68,4 @@ pieces k n P = by-numerator (sibson n k) (halved (table k) n) P (source k P) (ha
 
 pub sources : Sources
 unfolding weights formula row table column
-sources = record { piece0 = refl; pieces = pieces }
+sources = record { weightsAre = refl; pieces = pieces }

@@ -160,9 +160,6 @@ squareₑ left f = byRₑ f .c02 ⊕ byRₑ f .c12 ⊗ # 0
 abbrev pub Jetₑ : Type 0
 Jetₑ = Jet Quotient
 
-abbrev pub jetₑ : Expr → Expr → Cubicₑ → Quotient → Quotient → Jetₑ
-jetₑ W H f r s = record { height = valueₑ f r s; xSlope = valueₑ (byRₑ f) r s ÷ₑ W; ySlope = valueₑ (bySₑ f) r s ÷ₑ H }
-
 -- the three equations between two jets, and their decision
 abbrev pub Crossed : Jetₑ → Jetₑ → List ℤ → Type 0
 Crossed j k ρ = Holds (j .height ≈ₑ k .height) ρ × Holds (j .xSlope ≈ₑ k .xSlope) ρ × Holds (j .ySlope ≈ₑ k .ySlope) ρ

@@ -3,8 +3,8 @@ use Rattle.sibson.specs.Fraction.{ℚ}
 use Rattle.sibson.specs.Cubic.{Cell, Jet, jet}
 use Rattle.sibson.specs.Piece.{next, FourCubics, Corner, at}
 use Rattle.sibson.specs.Conditions.{Smooth, Meets, SameCorners, Equal}
-use Rattle.sibson.specs.Element.{sibson}
-use Rattle.sibson.specs.Theorems.{Uniqueness, Has, perPixel, Existence}
+use Rattle.sibson.specs.Element.{cornerNumbers, sibson, surface}
+use Rattle.sibson.specs.Theorems.{Uniqueness, Has, perPixel, ofNode, Existence}
 use Rattle.sibson.proofs.Jets.{≋-sym, ≋-trans, _⊟_, none, ≋-⊟, ≋-minus, ≋-of-minus}
 use Rattle.sibson.proofs.Rotation.{NothingAtCorners}
 use Rattle.sibson.proofs.Difference.{difference, jet-difference, square-difference, equal-of-zero, zero-of-equal}
@@ -47,10 +47,15 @@ same-numbers : (C : Cell) (S S′ : FourCubics) (j : Corner → Jet ℚ) → Has
 unfolding Has SameCorners
 same-numbers C S S′ j a b k c t = ≋-trans {j = jet C (S k) (at c)} {k = j c} {l = jet C (S′ k) (at c)} (a k c t) (≋-sym (b k c t))
 
+the-one : (C : Cell) (S S′ : FourCubics) (j : Corner → Jet ℚ) → Meets C S → Meets C S′ → Has C S j → Has C S′ j → Equal S S′
+the-one C S S′ j m m′ h h′ = uniqueness .exactly C S S′ m m′ .1 (same-numbers C S S′ j h h′)
+
 pub existence : Existence
+unfolding surface
 existence = record {
   meets = meets;
   numbers = numbers;
-  only = λ C n S m h. uniqueness .exactly C S (sibson n) m (meets C n) .1 (same-numbers C S (sibson n) (λ c. perPixel C (n c)) h (numbers C n));
+  only = λ C n S m h. the-one C S (sibson n) (λ c. perPixel C (n c)) m (meets C n) h (numbers C n);
   nodes = nodes;
+  onlyNodes = λ C m S s h. the-one C S (surface C m) (λ c. ofNode (m c)) s (meets C (cornerNumbers C m)) h (nodes C m);
 }

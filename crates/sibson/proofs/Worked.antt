@@ -25,8 +25,8 @@ examples = record {
       ),
     ),
   );
-  bendA = record { along-x = record { crossed = refl }; mixed = record { crossed = refl }; along-y = record { crossed = refl } };
-  bendA′ = record { along-x = record { crossed = refl }; mixed = record { crossed = refl }; along-y = record { crossed = refl } };
+  bendAtCentre = record { along-x = record { crossed = refl }; mixed = record { crossed = refl }; along-y = record { crossed = refl } };
+  bendAtCorner = record { along-x = record { crossed = refl }; mixed = record { crossed = refl }; along-y = record { crossed = refl } };
   slope = jets (refl, refl, refl);
   slopeBend = record { crossed = refl };
   astray = record { crossed = refl };

@@ -66,8 +66,8 @@ pub record Examples : Type 0 where
       line 0 1 (+ 32) (+ 0) (− 48) ∷ line 1 1 (+ 16) (− 24) (− 24) ∷ line 2 1 (+ 0) (+ 0) (+ 0) ∷
       line 0 2 (+ 0) (+ 0) (+ 0) ∷ line 1 2 (+ 0) (+ 0) (+ 0) ∷ line 2 2 (+ 0) (+ 0) (+ 0) ∷ [])
   -- its bend in grains: 0, 3072, 0 and −6144, 0, −6144 sixty-fourths
-  pub bendA : Bends two (raised (+ 64) (+ 0)) (pieceAt (pixel two 1 1)) 1 1 (+ 0) (+ 48) (+ 0)
-  pub bendA′ : Bends two (raised (+ 64) (+ 0)) (pieceAt (pixel two 0 0)) 0 0 (− 96) (+ 0) (− 96)
+  pub bendAtCentre : Bends two (raised (+ 64) (+ 0)) (pieceAt (pixel two 1 1)) 1 1 (+ 0) (+ 48) (+ 0)
+  pub bendAtCorner : Bends two (raised (+ 64) (+ 0)) (pieceAt (pixel two 0 0)) 0 0 (− 96) (+ 0) (− 96)
   -- lines 0 and 4, only x-slope 00 = 64: level 30, tilt 14, −12, bend xx −2560 at (1, 1); piece 3 there would have −1792
   pub slope : Reads four (raised (+ 0) (+ 64)) (line 1 1 (+ 30) (+ 14) (− 12))
   pub slopeBend : bend four (surface four (raised (+ 0) (+ 64)) (pieceAt (pixel four 1 1))) (pixel four 1 1) .xx ≈ whole (− 40)

@@ -98,6 +98,6 @@ source left P = P
 
 pub record Sources : Type 0 where
   -- 01's table is formula 105
-  pub piece0 : weights ≡ table top
+  pub weightsAre : weights ≡ table top
   -- the set we read from is formulas 105 to 108 at every point
   pub pieces : (k : Piece) (n : Corners) (P : Point) → value (sibson n k) P ≈ value (halved (table k) n) (source k P)

@@ -29,7 +29,9 @@ pub record Existence : Type 0 where
   pub meets : (C : Cell) (n : Corners) → Meets C (sibson n)
   pub numbers : (C : Cell) (n : Corners) → Has C (sibson n) (λ c. perPixel C (n c))
   pub only : (C : Cell) (n : Corners) (S : FourCubics) → Meets C S → Has C S (λ c. perPixel C (n c)) → Equal S (sibson n)
+  -- the same for a cell's nodes
   pub nodes : (C : Cell) (m : Corners) → Has C (surface C m) (λ c. ofNode (m c))
+  pub onlyNodes : (C : Cell) (m : Corners) (S : FourCubics) → Meets C S → Has C S (λ c. ofNode (m c)) → Equal S (surface C m)
 
 -- the length of a piece's edge, and the corners at its left or top end and at its right or bottom end
 abbrev pub lengthOf : Cell → Piece → Positive
