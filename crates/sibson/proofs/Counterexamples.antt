@@ -11,7 +11,7 @@ use lib.IntN.{ℤ, pos, natAbs}
 use Rattle.sibson.specs.Fraction.{Positive, positive}
 use Rattle.sibson.specs.Cubic.{Cell, Cubic, Power, one, r¹, s¹, r², rs, s², r³, r²s, rs², s³, coefficient, _≅_, jet}
 use Rattle.sibson.specs.Piece.{Piece, top, right, bottom, left, number, next, FourCubics, triangle, Corner, at}
-use Rattle.sibson.specs.Conditions.{squareTerm, SameCorners, Equal}
+use Rattle.sibson.specs.Conditions.{squareTerm, Smooth, SameCorners, Equal}
 use Rattle.sibson.specs.Element.{+_, −_}
 use Rattle.sibson.specs.Theorems.{perPixel}
 use Rattle.sibson.specs.Needed.{Counterexample, Needed}
@@ -287,4 +287,9 @@ counterexample {C = C} w = record {
 }
 
 pub needed : Needed
-needed = record { edge = λ C k. counterexample (without-edge k C); halfDiagonals = λ C j k n. counterexample (without-both j k (λ e. n (sym e)) C) }
+unfolding Smooth
+needed = record {
+  all = λ C S. (λ m. record { smooth = λ k. m .smooth k tt; linear = λ k. m .linear k tt }, λ m. record { smooth = λ k t. m .smooth k; linear = λ k t. m .linear k });
+  edge = λ C k. counterexample (without-edge k C);
+  halfDiagonals = λ C j k n. counterexample (without-both j k (λ e. n (sym e)) C);
+}

@@ -12,7 +12,7 @@ use Rattle.sibson.specs.Piece.{Piece, top, right, bottom, left, number, 
 use Rattle.sibson.specs.Conditions.{Smooth}
 use Rattle.sibson.specs.Sense.{Sharing, same, with-next, with-previous, at-centre, Covering}
 use Rattle.integers.proofs.Deduce.{both}
-use Rattle.sibson.proofs.Fractions.{≈-sym, ≈-complement, ≤-left, ≤-right, ≤-complement, ≤-trans, ≤-antisym, ≤-of-≈, ≤-yes, ≤-test, ≤-no, ≤-swap, ≤-swap′, below-half, above-half}
+use Rattle.sibson.proofs.Fractions.{≈-sym, ≈-complement, ≤-left, ≤-right, ≤-complement, ≤-trans, ≤-antisym, ≤-of-≈, ≤-yes, ≤-test, ≤-no, ≤-swap, ≤-swap′, below-half, above-half, half-complement}
 use Rattle.sibson.proofs.Finite.{and}
 use Rattle.sibson.proofs.Jets.{≋-refl, ≋-sym, ≋-trans}
 
@@ -23,12 +23,6 @@ zero-half = record { crossed = leZ-yes tt }
 
 half-one : half ≤ℚ whole (pos 1)
 half-one = record { crossed = leZ-yes tt }
-
-half-is : complement half ≈ half
-half-is = record { crossed = refl }
-
-half-complement : half ≈ complement half
-half-complement = record { crossed = refl }
 
 zero-complement : whole (pos 0) ≈ complement (whole (pos 1))
 zero-complement = record { crossed = refl }
@@ -135,13 +129,13 @@ meeting top P (e, l, u) =
       test right P (≤-trans u v, ≤-of-≈ (≈-sym e)),
     )
 meeting right P (e, l, u) =
-    let v : complement (P .s) ≤ℚ P .s = ≤-trans (≤-right (≤-complement l) half-is) l in (
+    let v : complement (P .s) ≤ℚ P .s = ≤-trans (≤-right (≤-complement l) (≈-sym half-complement)) l in (
       record { fromLeft = ≤-trans zero-half (≤-right l (≈-sym e)); toRight = ≤-left e u; fromTop = ≤-trans zero-half l; toBottom = u },
       test right P (≤-of-≈ (≈-sym e), ≤-right v (≈-sym e)),
       test bottom P (≤-of-≈ e, ≤-left (≈-complement e) v),
     )
 meeting bottom P (e, l, u) =
-    let v : P .r ≤ℚ half = ≤-left e (≤-right (≤-complement l) half-is) in (
+    let v : P .r ≤ℚ half = ≤-left e (≤-right (≤-complement l) (≈-sym half-complement)) in (
       record { fromLeft = ≤-right (≤-left zero-complement (≤-complement u)) (≈-sym e); toRight = ≤-trans v half-one; fromTop = ≤-trans zero-half l; toBottom = u },
       test bottom P (≤-trans v l, ≤-swap′ (≤-of-≈ (≈-sym e))),
       test left P (≤-trans v l, ≤-of-≈ e),

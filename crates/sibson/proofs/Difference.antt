@@ -11,10 +11,10 @@ use Rattle.integers.proofs.Polynomial.{Expr, #_, _⊕_, _⊗_, _⊝_, ⊖_}
 use Rattle.integers.proofs.Solve.{_≐_}
 use Rattle.integers.proofs.Deduce.{Used, _·_, _⊨_, deduce, certified-sound}
 use Rattle.sibson.proofs.Fractions.{≈-sym, ≈-trans, ≈--, ≈-÷-minus}
-use Rattle.sibson.proofs.Jets.{_⊟_}
+use Rattle.sibson.proofs.Jets.{≋-sym, ≋-trans, _⊟_, none, ≋-of-minus}
 use Rattle.sibson.proofs.Quote.{Cubicₑ, nil, squareₑ, cubicₑ, fractionₑ, cubic, fraction}
 use Rattle.sibson.proofs.Evaluate.{numerator, cubes, common, value-is, numeratorsAt, numeratorsₑ, same-three}
-use Rattle.sibson.proofs.Coefficients.{Zero}
+use Rattle.sibson.proofs.Coefficients.{Zero, zero-jet}
 
 unfoldable pub difference : Cubic → Cubic → Cubic
 difference f g = let d = pos (f .divisor .number) in let d′ = pos (g .divisor .number) in record {
@@ -133,8 +133,14 @@ equal-of-zero f g z = record {
   };
 }
 
-pub zero-of-equal : (f g : Cubic) → f ≅ g → Zero (difference f g)
+zero-of-equal : (f g : Cubic) → f ≅ g → Zero (difference f g)
 unfolding Zero
 zero-of-equal f g e p = coefficient-difference f g p
     ∙ deduce 4 (λ a d b e. (# 1 · (a ⊗ (# 1 ⊗ e) ≐ b ⊗ (# 1 ⊗ d))) ∷ [] ⊨ a ⊗ e ⊝ b ⊗ d ≐ # 0) tt
     (coefficient f p) (pos (f .divisor .number)) (coefficient g p) (pos (g .divisor .number)) (e .coefficients p .crossed)
+
+-- equal cubics have the same height and slopes everywhere
+pub same-everywhere : (C : Cell) (f g : Cubic) → f ≅ g → (P : Point) → jet C f P ≋ jet C g P
+same-everywhere C f g e P = ≋-of-minus {j = jet C f P} {k = jet C g P}
+    (≋-trans {j = jet C f P ⊟ jet C g P} {k = jet C (difference f g) P} {l = none}
+    (≋-sym (jet-difference C f g P)) (zero-jet C (difference f g) (zero-of-equal f g e) P))

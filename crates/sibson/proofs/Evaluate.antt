@@ -16,6 +16,7 @@ use Rattle.sibson.proofs.Fractions.{≈-refl, ≈-sym, ≈-trans, ≈-�
 use Rattle.sibson.proofs.Jets.{none, ≋-trans}
 use Rattle.sibson.proofs.Quote.{Quotient, _/ₑ_, Cubicₑ, valueₑ, byRₑ, bySₑ, equal, anyₑ, rₑ, sₑ, any}
 
+-- the sum of the ten terms
 unfoldable pub numerator : Cubic → Point → ℤ
 numerator f P = let a = P .r .numerator in let p = pos (P .r .denominator .number) in let b = P .s .numerator in let q = pos (P .s .denominator .number) in
     f .c00 *ℤ (p *ℤ p *ℤ p *ℤ (q *ℤ q *ℤ q)) +ℤ f .c10 *ℤ (a *ℤ p *ℤ p *ℤ (q *ℤ q *ℤ q)) +ℤ f .c01 *ℤ (p *ℤ p *ℤ p *ℤ (b *ℤ q *ℤ q))
@@ -23,6 +24,7 @@ numerator f P = let a = P .r .numerator in let p = pos (P .r .denominator .numbe
     +ℤ f .c30 *ℤ (a *ℤ a *ℤ a *ℤ (q *ℤ q *ℤ q)) +ℤ f .c21 *ℤ (a *ℤ a *ℤ p *ℤ (b *ℤ q *ℤ q)) +ℤ f .c12 *ℤ (a *ℤ p *ℤ p *ℤ (b *ℤ b *ℤ q))
     +ℤ f .c03 *ℤ (p *ℤ p *ℤ p *ℤ (b *ℤ b *ℤ b))
 
+-- p³ q³
 unfoldable pub cubes : Point → Positive
 cubes P = let p = P .r .denominator in let q = P .s .denominator in p *⁺ p *⁺ p *⁺ (q *⁺ q *⁺ q)
 
@@ -39,6 +41,7 @@ common f P = record { numerator = numerator f P; denominator = f .divisor *⁺ c
 abbrev pub commonₑ : Cubicₑ → Quotient → Quotient → Quotient
 commonₑ f r s = let p = r .den in let q = s .den in numeratorₑ f r s /ₑ (f .divisor ⊗ (p ⊗ p ⊗ p ⊗ (q ⊗ q ⊗ q)))
 
+-- the value is the one over the other and the divisor
 pub value-is : (f : Cubic) (P : Point) → value f P ≈ common f P
 unfolding value numerator cubes
 value-is f P = record {
@@ -59,6 +62,7 @@ numerators f g P Q c e h = *ℤ-cancel-r (cubes P .number) (cubes P .above)
     (numerator f P) (numerator g Q) c (pos (f .divisor .number)) (pos (g .divisor .number)) (pos (cubes P .number)) (pos (cubes Q .number))
     (≈-trans {y = value f P} (≈-sym (value-is f P)) (≈-trans {y = c ·ℚ value g Q} h (≈-· c (value-is g Q))) .crossed) (ap pos e))
 
+-- equal numerators over equal denominators
 pub by-numerator : (f g : Cubic) (P Q : Point) → f .divisor .number ≡ g .divisor .number → cubes P .number ≡ cubes Q .number →
     numerator f P ≡ numerator g Q → value f P ≈ value g Q
 by-numerator f g P Q d n e = ≈-trans {y = common f P} (value-is f P)

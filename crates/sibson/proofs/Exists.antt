@@ -7,8 +7,8 @@ use Rattle.sibson.specs.Fraction.{ℚ, Positive, positive, whole}
 use Rattle.sibson.specs.Cubic.{Cell, jet, _≋_}
 use Rattle.sibson.specs.Piece.{Piece, next, triangle, Corner, leftTop, rightTop, leftBottom, rightBottom, at}
 use Rattle.sibson.specs.Conditions.{Meets, Smooth, squareTerm}
-use Rattle.sibson.specs.Element.{Corners, cornerNumbers, inOrder, column, weights, swap, exchanged, sibson, surface}
-use Rattle.sibson.specs.Theorems.{Has, perPixel, ofNode}
+use Rattle.sibson.specs.Element.{Nodes, CornerNumbers, cornerNumbers, inOrder, column, weights, swap, exchanged, sibson, element}
+use Rattle.sibson.specs.Theorems.{Has, perPixel, wholes}
 use Rattle.integers.proofs.Polynomial.{#_, _⊗_}
 use Rattle.integers.proofs.Solve.{solve, _≐_}
 use Rattle.sibson.proofs.Fractions.{≈-refl}
@@ -22,7 +22,7 @@ use Rattle.sibson.proofs.Places.{given, onLine, joins, joined, smooth-a
 abbrev two : Positive
 two = positive 2 tt
 
-is : (C : Cell) (s : ℚ) (n : Corners) (k : Piece) → sibson n k ≡ evaluated (given C s (inOrder n)) (elementₑ k) two
+is : (C : Cell) (s : ℚ) (n : CornerNumbers) (k : Piece) → sibson n k ≡ evaluated (given C s (inOrder n)) (elementₑ k) two
 is C s n k = sibson-is (pos (C .W .number)) (pos (C .H .number)) (s .numerator) (pos (s .denominator .number)) n k
 
 -- ---- the conditions
@@ -31,7 +31,7 @@ lines : (k : Piece) → T (joins elementₑ k)
 unfolding next inOrder column weights swap exchanged
 lines = every-piece (joins elementₑ) tt
 
-smooth : (C : Cell) (n : Corners) → Smooth C (sibson n)
+smooth : (C : Cell) (n : CornerNumbers) → Smooth C (sibson n)
 unfolding Smooth
 smooth C n k P h = smooth-at C (sibson n) k (λ s. subst₂ (λ f g. jet C f (onLine k s) ≋ jet C g (onLine k s))
     (sym (is C s n k)) (sym (is C s n (next k))) (joined C elementₑ two (inOrder n) k (lines k) s)) P h
@@ -40,11 +40,11 @@ edges : (k : Piece) → T (flat elementₑ k)
 unfolding inOrder column weights swap exchanged
 edges = every-piece (flat elementₑ) tt
 
-linear : (C : Cell) (n : Corners) (k : Piece) → squareTerm k (sibson n k) ≡ pos 0
+linear : (C : Cell) (n : CornerNumbers) (k : Piece) → squareTerm k (sibson n k) ≡ pos 0
 linear C n k = let z = whole (pos 0) in
     subst (λ f. squareTerm k f ≡ pos 0) (sym (is C z n k)) (no-square (given C z (inOrder n)) elementₑ two k (edges k))
 
-pub meets : (C : Cell) (n : Corners) → Meets C (sibson n)
+pub meets : (C : Cell) (n : CornerNumbers) → Meets C (sibson n)
 meets C n = record { smooth = smooth C n; linear = linear C n }
 
 -- ---- the corners
@@ -56,30 +56,30 @@ corners : (k : Piece) (c : Corner) → T (reads k c)
 unfolding inOrder column weights swap exchanged
 corners k c = every-corner (reads k) (every-piece (λ l. everyCorner (reads l)) tt k) c
 
-number-is : (C : Cell) (n : Corners) (c : Corner) → three (given C (whole (pos 0)) (inOrder n)) (numbersₑ c) ≡ n c
+number-is : (C : Cell) (n : CornerNumbers) (c : Corner) → three (given C (whole (pos 0)) (inOrder n)) (numbersₑ c) ≡ n c
 unfolding inOrder
 number-is C n leftTop = refl
 number-is C n rightTop = refl
 number-is C n leftBottom = refl
 number-is C n rightBottom = refl
 
-pub numbers : (C : Cell) (n : Corners) → Has C (sibson n) (λ c. perPixel C (n c))
+pub numbers : (C : Cell) (n : CornerNumbers) → Has C (sibson n) (λ c. perPixel C (n c))
 unfolding Has
 numbers C n k c t = let ρ = given C (whole (pos 0)) (inOrder n) in
     subst₂ (λ f m. jet C f (at c) ≋ perPixel C m) (sym (is C (whole (pos 0)) n k)) (number-is C n c)
     (has-numbers C ρ (elementₑ k) two (numbersₑ c) c (implied (triangle k (at c)) (has (elementₑ k) two (numbersₑ c) c) (corners k c) t))
 
 -- W times a slope, over W, is the slope
-per-pixel : (C : Cell) (m : Corners) (c : Corner) → perPixel C (cornerNumbers C m c) ≋ ofNode (m c)
-unfolding perPixel cornerNumbers ofNode
+per-pixel : (C : Cell) (m : Nodes) (c : Corner) → perPixel C (cornerNumbers C m c) ≋ wholes (m c)
+unfolding perPixel cornerNumbers wholes
 per-pixel C m c = record {
   heights = ≈-refl (whole (m c .height));
   xSlopes = record { crossed = solve 2 (λ w x. w ⊗ x ⊗ # 1 ≐ x ⊗ (# 1 ⊗ w)) tt (pos (C .W .number)) (m c .xSlope) };
   ySlopes = record { crossed = solve 2 (λ h y. h ⊗ y ⊗ # 1 ≐ y ⊗ (# 1 ⊗ h)) tt (pos (C .H .number)) (m c .ySlope) };
 }
 
-pub nodes : (C : Cell) (m : Corners) → Has C (surface C m) (λ c. ofNode (m c))
-unfolding Has surface
+pub nodes : (C : Cell) (m : Nodes) → Has C (element C m) (λ c. wholes (m c))
+unfolding Has element
 nodes C m k c t =
-    ≋-trans {j = jet C (sibson (cornerNumbers C m) k) (at c)} {k = perPixel C (cornerNumbers C m c)} {l = ofNode (m c)}
+    ≋-trans {j = jet C (sibson (cornerNumbers C m) k) (at c)} {k = perPixel C (cornerNumbers C m c)} {l = wholes (m c)}
     (numbers C (cornerNumbers C m) k c t) (per-pixel C m c)

@@ -1,6 +1,8 @@
 -- Fractions: equality is an equivalence that the operations respect, and the order respects it. Assumes nothing.
-use mathlib.Core.Path.{refl, sym}
-use lib.IntN.{ℤ, pos, negℤ, _*ℤ_}
+use mathlib.Core.Path.{_≡_, refl, sym, ap}
+use Prim.Native.Nat.{ℕ}
+use native.Mathlib.Omega.{arith}
+use lib.IntN.{ℤ, pos, negℤ, natAbs, _*ℤ_}
 use mathlib.Core.Bool.{not}
 use lib.Dec.{T}
 use lib.Signed.{leZ-yes}
@@ -10,6 +12,7 @@ use Rattle.sibson.specs.Sense.{FractionLaws}
 use Rattle.integers.proofs.Polynomial.{#_, _⊕_, _⊗_, ⊖_}
 use Rattle.integers.proofs.Solve.{_≐_, _≼_, solve}
 use Rattle.integers.proofs.Deduce.{_·_, _⊨_, deduce}
+use Rattle.sibson.proofs.Quote.{_+ₑ_, _*ₑ_, equal, fractionₑ, fraction}
 use Rattle.integers.proofs.Order.{*ℤ-cancel-r, ≤ℤ-cancel-r, *ℤ-mono-r, pos-nonneg, ≤ℤ-antisym, ≤ℤ-of-eq, <ℤ→≤ℤ, not-leZ}
 
 -- ---- an equivalence
@@ -109,6 +112,9 @@ complement-complement x = record {
       (x .numerator) (pos (x .denominator .number));
 }
 
+pub half-complement : half ≈ complement half
+half-complement = record { crossed = refl }
+
 -- ---- the order
 
 pub ≤-left : {x y z : ℚ} → x ≈ y → y ≤ℚ z → x ≤ℚ z
@@ -186,7 +192,14 @@ fraction-laws = record {
   transitive = λ x y z e f. ≈-trans e f;
   sums = λ x x′ y y′ e f. ≈-+ e f;
   products = λ x x′ y y′ e f. ≈-* e f;
+  distinct = λ e. let h : _≡_ {A = ℕ} 0 1 = ap natAbs (e .crossed) in absurd (omega arith);
+  wholeSums = λ a b. record { crossed = solve 2 (λ a b. (a ⊕ b) ⊗ # 1 ≐ (a ⊗ # 1 ⊕ b ⊗ # 1) ⊗ # 1) tt a b };
+  wholeProducts = λ a b. record { crossed = refl };
+  distributive = λ x y z. record {
+    crossed = equal (fractionₑ 0 *ₑ (fractionₑ 2 +ₑ fractionₑ 4)) (fractionₑ 0 *ₑ fractionₑ 2 +ₑ fractionₑ 0 *ₑ fractionₑ 4) tt (fraction x (fraction y (fraction z [])));
+  };
   multiples = λ c x. record { crossed = solve 3 (λ c a p. c ⊗ a ⊗ (# 1 ⊗ p) ≐ c ⊗ a ⊗ p) tt c (x .numerator) (pos (x .denominator .number)) };
   quotients = λ x n. record { crossed = solve 3 (λ a p n. a ⊗ n ⊗ p ≐ a ⊗ (p ⊗ n ⊗ # 1)) tt (x .numerator) (pos (x .denominator .number)) (pos (n .number)) };
+  order = λ x y. (λ e. (≤-of-≈ e, ≤-of-≈ (≈-sym e)), λ h. ≤-antisym (h .0) (h .1));
   tests = λ x y. (≤-yes x y, λ h. ≤-test h);
 }

@@ -16,6 +16,7 @@ pub mod Covers
 pub mod Rotation
 pub mod Blank
 pub mod Difference
+pub mod SameValues
 pub mod Unique
 pub mod Counterexamples
 pub mod Worked

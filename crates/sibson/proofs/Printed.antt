@@ -5,7 +5,7 @@ use lib.IntN.{ℤ, pos}
 use Rattle.sibson.specs.Fraction.{_≈_, positive, complement}
 use Rattle.sibson.specs.Cubic.{Point, value}
 use Rattle.sibson.specs.Piece.{Piece, top, right, bottom, left}
-use Rattle.sibson.specs.Element.{Corners, inOrder, column, weights, weighed, halved, transposed, flipped, mirrored, swap, exchanged, onTop, onLeft, sibson}
+use Rattle.sibson.specs.Element.{CornerNumbers, inOrder, column, weights, weighed, halved, transposed, flipped, mirrored, swap, exchanged, onTop, onLeft, sibson}
 use Rattle.sibson.specs.Source.{formula, row, table, source, Sources}
 use Rattle.integers.proofs.Polynomial.{Expr, #_, _⊗_}
 use Rattle.integers.proofs.Solve.{_≐_, same-sound, solve}
@@ -22,7 +22,7 @@ rₑ = fractionₑ 0
 abbrev sₑ : Quotient
 sₑ = fractionₑ 2
 
-abbrev given : Point → Corners → List ℤ
+abbrev given : Point → CornerNumbers → List ℤ
 given P n = fraction (P .r) (fraction (P .s) (inOrder n))
 
 abbrev printedₑ : Piece → Expr
@@ -31,14 +31,14 @@ printedₑ right = numeratorₑ (halvedₑ (table right) numbersₑ) (wholeₑ (
 printedₑ bottom = numeratorₑ (halvedₑ (table bottom) numbersₑ) (wholeₑ (# 1) -ₑ rₑ) (wholeₑ (# 1) -ₑ sₑ)
 printedₑ left = numeratorₑ (halvedₑ (table left) numbersₑ) rₑ sₑ
 
-same-numerators : (k : Piece) (n : Corners) (P : Point) → numerator (evaluated (given P n) (elementₑ k) (positive 2 tt)) P ≡ numerator (halved (table k) n) (source k P)
+same-numerators : (k : Piece) (n : CornerNumbers) (P : Point) → numerator (evaluated (given P n) (elementₑ k) (positive 2 tt)) P ≡ numerator (halved (table k) n) (source k P)
 unfolding numerator inOrder column weights weighed halved swap exchanged formula row table source
 same-numerators top n P = same-sound (numeratorₑ (elementₑ top) rₑ sₑ) (printedₑ top) tt (given P n)
 same-numerators right n P = same-sound (numeratorₑ (elementₑ right) rₑ sₑ) (printedₑ right) tt (given P n)
 same-numerators bottom n P = same-sound (numeratorₑ (elementₑ bottom) rₑ sₑ) (printedₑ bottom) tt (given P n)
 same-numerators left n P = same-sound (numeratorₑ (elementₑ left) rₑ sₑ) (printedₑ left) tt (given P n)
 
-numerators : (k : Piece) (n : Corners) (P : Point) → numerator (sibson n k) P ≡ numerator (halved (table k) n) (source k P)
+numerators : (k : Piece) (n : CornerNumbers) (P : Point) → numerator (sibson n k) P ≡ numerator (halved (table k) n) (source k P)
 numerators k n P = ap (λ f. numerator f P) (sibson-is (P .r .numerator) (pos (P .r .denominator .number)) (P .s .numerator) (pos (P .s .denominator .number)) n k)
     ∙ same-numerators k n P
 
@@ -55,14 +55,14 @@ source-cubes right P = complement-cubes P
 source-cubes bottom P = complement-cubes P
 source-cubes left P = refl
 
-halves : (k : Piece) (n : Corners) → sibson n k .divisor .number ≡ 2
+halves : (k : Piece) (n : CornerNumbers) → sibson n k .divisor .number ≡ 2
 unfolding halved transposed flipped mirrored onTop onLeft sibson
 halves top n = refl
 halves right n = refl
 halves bottom n = refl
 halves left n = refl
 
-pieces : (k : Piece) (n : Corners) (P : Point) → value (sibson n k) P ≈ value (halved (table k) n) (source k P)
+pieces : (k : Piece) (n : CornerNumbers) (P : Point) → value (sibson n k) P ≈ value (halved (table k) n) (source k P)
 unfolding halved
 pieces k n P = by-numerator (sibson n k) (halved (table k) n) P (source k P) (halves k n) (source-cubes k P) (numerators k n P)
 

@@ -6,7 +6,7 @@ use lib.IntN.{ℤ, pos}
 use Rattle.sibson.specs.Fraction.{positive}
 use Rattle.sibson.specs.Cubic.{Power, one, r¹, s¹, r², rs, s², r³, r²s, rs², s³, Jet}
 use Rattle.sibson.specs.Piece.{Piece, top, right, bottom, left, Corner, leftTop, rightTop, leftBottom, rightBottom}
-use Rattle.sibson.specs.Element.{Corners, inOrder, column, weights, weighed, halved, transposed, flipped, mirrored, swap, negateX, negateY, exchanged, topDown, leftRight, onTop, onLeft, sibson}
+use Rattle.sibson.specs.Element.{CornerNumbers, inOrder, column, weights, weighed, halved, transposed, flipped, mirrored, swap, negateX, negateY, exchanged, topDown, leftRight, onTop, onLeft, sibson}
 use Rattle.integers.proofs.Polynomial.{Expr, var, con, #_, _⊕_, _⊗_, ⊖_}
 use Rattle.sibson.proofs.Quote.{Cubicₑ, transposedₑ, flippedₑ, evaluated}
 
@@ -75,7 +75,7 @@ abbrev pub elementₑ : Piece → Cubicₑ
 elementₑ k = sibsonₑ numbersₑ k
 
 -- the quotation is right, whatever the first four variables
-pub sibson-is : (x y z w : ℤ) (n : Corners) (k : Piece) → sibson n k ≡ evaluated (x ∷ y ∷ z ∷ w ∷ inOrder n) (elementₑ k) (positive 2 tt)
+pub sibson-is : (x y z w : ℤ) (n : CornerNumbers) (k : Piece) → sibson n k ≡ evaluated (x ∷ y ∷ z ∷ w ∷ inOrder n) (elementₑ k) (positive 2 tt)
 unfolding inOrder column weights weighed halved transposed flipped mirrored swap negateX negateY exchanged topDown leftRight onTop onLeft sibson
 sibson-is x y z w n top = refl
 sibson-is x y z w n right = refl

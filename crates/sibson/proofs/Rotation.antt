@@ -11,7 +11,7 @@ use Rattle.sibson.specs.Conditions.{squareTerm, squareInR, squareInS}
 use Rattle.sibson.specs.Element.{transposed, flipped}
 use Rattle.integers.proofs.Polynomial.{#_, ⊖_}
 use Rattle.integers.proofs.Deduce.{_·_, certified-sound}
-use Rattle.sibson.proofs.Fractions.{≈-sym, ≈-·, ≈-÷, ≈-complement, ≤-left, ≤-right, ≤-complement}
+use Rattle.sibson.proofs.Fractions.{≈-sym, ≈-·, ≈-÷, ≈-complement, ≤-left, ≤-right, ≤-complement, half-complement}
 use Rattle.sibson.proofs.Finite.{every-piece, everyCorner, every-corner, implies, implied}
 use Rattle.sibson.proofs.Jets.{≋-sym, ≋-trans, _≈ₚ_, jet-at, none}
 use Rattle.sibson.proofs.Coefficients.{Zero}
@@ -64,16 +64,13 @@ pub ≋-quarter : {j k : Jet ℚ} → j ≋ k → quarter j ≋ quarter k
 
 -- ---- the half diagonals
 
-same-half : complement half ≈ half
-same-half = record { crossed = refl }
-
 diagonal-around : (k : Piece) (P : Point) → HalfDiagonal k P → HalfDiagonal (next k) (around P)
 unfolding HalfDiagonal next
 diagonal-around top P (e, l, u) =
-    (≈-sym e, ≤-right (≤-left (≈-sym same-half) (≤-complement u)) (≈-sym e), ≤-left e (≤-right (≤-complement l) (record { crossed = refl })))
+    (≈-sym e, ≤-right (≤-left half-complement (≤-complement u)) (≈-sym e), ≤-left e (≤-right (≤-complement l) (record { crossed = refl })))
 diagonal-around right P (e, l, u) = (≈-complement (≈-sym e), ≤-right l (≈-sym e), ≤-left e u)
 diagonal-around bottom P (e, l, u) =
-    (≈-sym e, ≤-right (≤-left (record { crossed = refl }) (≤-complement u)) (≈-sym e), ≤-left e (≤-right (≤-complement l) same-half))
+    (≈-sym e, ≤-right (≤-left (record { crossed = refl }) (≤-complement u)) (≈-sym e), ≤-left e (≤-right (≤-complement l) (≈-sym half-complement)))
 diagonal-around left P (e, l, u) = (≈-complement (≈-sym e), ≤-right l (≈-sym e), ≤-left e u)
 
 pub smooth-rotated : (C : Cell) (S : FourCubics) (k : Piece) → SmoothAt C S (next k) → SmoothAt (onSide C) (rotatedSet S) k

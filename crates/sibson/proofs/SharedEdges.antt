@@ -6,7 +6,7 @@ use lib.IntN.{ℤ, pos, negℤ, _+ℤ_, _*ℤ_}
 use Rattle.sibson.specs.Fraction.{Positive, positive, ℚ, _+ℚ_, _-ℚ_, _*ℚ_, _·ℚ_, _÷_, complement}
 use Rattle.sibson.specs.Cubic.{Cell, Point, Cubic, byR, byS, Jet, jet, _≋_}
 use Rattle.sibson.specs.Piece.{Piece, top, right, bottom, left, edge, leftTop, rightTop, leftBottom, rightBottom}
-use Rattle.sibson.specs.Element.{Corners, cornerNumbers, inOrder, column, weights, weighed, halved, transposed, flipped, mirrored, swap, negateX, negateY, exchanged, topDown, leftRight, onTop, onLeft, sibson, surface}
+use Rattle.sibson.specs.Element.{Nodes, CornerNumbers, cornerNumbers, inOrder, column, weights, weighed, halved, transposed, flipped, mirrored, swap, negateX, negateY, exchanged, topDown, leftRight, onTop, onLeft, sibson, element}
 use Rattle.sibson.specs.Theorems.{lengthOf, first, last, AgreeAlong, Edges}
 use Rattle.integers.proofs.Polynomial.{Expr, #_, _⊕_, _⊗_, ⊖_}
 use Rattle.sibson.proofs.Fractions.{≈-÷}
@@ -25,15 +25,11 @@ along L a b t = let l = pos (L .number) in let u = complement t in record {
   ySlope = a .ySlope ·ℚ u +ℚ b .ySlope ·ℚ t;
 }
 
--- x and y exchanged
-unfoldable pub turned : Jet ℚ → Jet ℚ
-turned j = record { height = j .height; xSlope = j .ySlope; ySlope = j .xSlope }
-
 unfoldable pub onEdge : Piece → Positive → Jet ℤ → Jet ℤ → ℚ → Jet ℚ
 onEdge top L a b t = along L a b t
-onEdge right L a b t = turned (along L (swap a) (swap b) t)
+onEdge right L a b t = swap (along L (swap a) (swap b) t)
 onEdge bottom L a b t = along L a b t
-onEdge left L a b t = turned (along L (swap a) (swap b) t)
+onEdge left L a b t = swap (along L (swap a) (swap b) t)
 
 -- ---- heights and slopes with every value over one denominator
 
@@ -61,7 +57,7 @@ alongₑ l a b t = let u = wholeₑ (# 1) -ₑ t in record {
 }
 
 abbrev downₑ : Jet Expr → Jet Expr → Jetₑ
-downₑ a b = let j = alongₑ Hₑ (swap a) (swap b) tₑ in record { height = j .height; xSlope = j .ySlope; ySlope = j .xSlope }
+downₑ a b = swap (alongₑ Hₑ (swap a) (swap b) tₑ)
 
 abbrev nodesₑ : Cornersₑ
 nodesₑ c = record { height = numbersₑ c .height; xSlope = Wₑ ⊗ numbersₑ c .xSlope; ySlope = Hₑ ⊗ numbersₑ c .ySlope }
@@ -73,16 +69,16 @@ edgeₑ bottom = commonJetₑ (sibsonₑ nodesₑ bottom) tₑ (wholeₑ (# 1))
 edgeₑ left = commonJetₑ (sibsonₑ nodesₑ left) (wholeₑ (# 0)) tₑ
 
 -- the set for nodes, by its quotation
-nodes-are : (C : Cell) (m : Corners) (k : Piece) (t : ℚ) → surface C m k ≡ evaluated (given C t (inOrder m)) (sibsonₑ nodesₑ k) (positive 2 tt)
-unfolding inOrder column weights weighed halved transposed flipped mirrored swap negateX negateY exchanged topDown leftRight onTop onLeft sibson surface cornerNumbers
+nodes-are : (C : Cell) (m : Nodes) (k : Piece) (t : ℚ) → element C m k ≡ evaluated (given C t (inOrder m)) (sibsonₑ nodesₑ k) (positive 2 tt)
+unfolding inOrder column weights weighed halved transposed flipped mirrored swap negateX negateY exchanged topDown leftRight onTop onLeft sibson element cornerNumbers
 nodes-are C m top t = refl
 nodes-are C m right t = refl
 nodes-are C m bottom t = refl
 nodes-are C m left t = refl
 
-on-edge : (C : Cell) (m : Corners) (k : Piece) (t : ℚ) →
+on-edge : (C : Cell) (m : Nodes) (k : Piece) (t : ℚ) →
     jet C (evaluated (given C t (inOrder m)) (sibsonₑ nodesₑ k) (positive 2 tt)) (edge k t) ≋ onEdge k (lengthOf C k) (m (first k)) (m (last k)) t
-unfolding numerator cubes byR byS inOrder column weights swap exchanged onEdge along turned
+unfolding numerator cubes byR byS inOrder column weights swap exchanged onEdge along
 on-edge C m top t = by-common C _ (edge top t)
     (jets (decided (edgeₑ top) (alongₑ Wₑ (numbersₑ leftTop) (numbersₑ rightTop) tₑ) tt (given C t (inOrder m))))
 on-edge C m right t = by-common C _ (edge right t)
@@ -92,14 +88,14 @@ on-edge C m bottom t = by-common C _ (edge bottom t)
 on-edge C m left t = by-common C _ (edge left t)
     (jets (decided (edgeₑ left) (downₑ (numbersₑ leftTop) (numbersₑ leftBottom)) tt (given C t (inOrder m))))
 
-on-edges : (C : Cell) (m : Corners) (k : Piece) (t : ℚ) → jet C (surface C m k) (edge k t) ≋ onEdge k (lengthOf C k) (m (first k)) (m (last k)) t
+on-edges : (C : Cell) (m : Nodes) (k : Piece) (t : ℚ) → jet C (element C m k) (edge k t) ≋ onEdge k (lengthOf C k) (m (first k)) (m (last k)) t
 on-edges C m k t = subst (λ f. jet C f (edge k t) ≋ onEdge k (lengthOf C k) (m (first k)) (m (last k)) t) (sym (nodes-are C m k t)) (on-edge C m k t)
 
 -- ---- two cells
 
 -- only the length's number counts
 again : (k : Piece) (L : Positive) (a b : Jet ℤ) (t : ℚ) (p : 0 < L .number) → onEdge k L a b t ≋ onEdge k (record { number = L .number; above = p }) a b t
-unfolding onEdge along turned
+unfolding onEdge along swap
 again top L a b t p = jets (refl, refl, refl)
 again right L a b t p = jets (refl, refl, refl)
 again bottom L a b t p = jets (refl, refl, refl)
@@ -113,11 +109,11 @@ same-length k L L′ a b t e =
 agree-along : (k l : Piece) → ((L : Positive) (a b : Jet ℤ) (t : ℚ) → onEdge k L a b t ≡ onEdge l L a b t) → AgreeAlong k l
 unfolding AgreeAlong
 agree-along k l alike C D m n e t =
-    ≋-trans {j = jet C (surface C m k) (edge k t)} {k = here (m (first k)) (m (last k)) (lengthOf C k)} {l = jet D (surface D n l) (edge l t)} (on-edges C m k t)
-    (subst (λ j. j ≋ jet D (surface D n l) (edge l t)) nodes
-    (≋-trans {j = here (n (first l)) (n (last l)) (lengthOf C k)} {k = here (n (first l)) (n (last l)) (lengthOf D l)} {l = jet D (surface D n l) (edge l t)}
+    ≋-trans {j = jet C (element C m k) (edge k t)} {k = here (m (first k)) (m (last k)) (lengthOf C k)} {l = jet D (element D n l) (edge l t)} (on-edges C m k t)
+    (subst (λ j. j ≋ jet D (element D n l) (edge l t)) nodes
+    (≋-trans {j = here (n (first l)) (n (last l)) (lengthOf C k)} {k = here (n (first l)) (n (last l)) (lengthOf D l)} {l = jet D (element D n l) (edge l t)}
     (same-length k (lengthOf C k) (lengthOf D l) (n (first l)) (n (last l)) t (e .lengths))
-    (subst (λ j. j ≋ jet D (surface D n l) (edge l t)) (sym (alike (lengthOf D l) (n (first l)) (n (last l)) t)) (≋-sym (on-edges D n l t)))))
+    (subst (λ j. j ≋ jet D (element D n l) (edge l t)) (sym (alike (lengthOf D l) (n (first l)) (n (last l)) t)) (≋-sym (on-edges D n l t)))))
   where
     here : Jet ℤ → Jet ℤ → Positive → Jet ℚ
     here a b L = onEdge k L a b t

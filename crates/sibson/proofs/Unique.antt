@@ -3,12 +3,11 @@ use Rattle.sibson.specs.Fraction.{ℚ}
 use Rattle.sibson.specs.Cubic.{Cell, Jet, jet}
 use Rattle.sibson.specs.Piece.{next, FourCubics, Corner, at}
 use Rattle.sibson.specs.Conditions.{Smooth, Meets, SameCorners, Equal}
-use Rattle.sibson.specs.Element.{cornerNumbers, sibson, surface}
-use Rattle.sibson.specs.Theorems.{Uniqueness, Has, perPixel, ofNode, Existence}
-use Rattle.sibson.proofs.Jets.{≋-sym, ≋-trans, _⊟_, none, ≋-⊟, ≋-minus, ≋-of-minus}
+use Rattle.sibson.specs.Element.{cornerNumbers, sibson, element}
+use Rattle.sibson.specs.Theorems.{Uniqueness, Has, perPixel, wholes, Existence}
+use Rattle.sibson.proofs.Jets.{≋-sym, ≋-trans, _⊟_, none, ≋-⊟, ≋-minus}
 use Rattle.sibson.proofs.Rotation.{NothingAtCorners}
-use Rattle.sibson.proofs.Difference.{difference, jet-difference, square-difference, equal-of-zero, zero-of-equal}
-use Rattle.sibson.proofs.Coefficients.{zero-jet}
+use Rattle.sibson.proofs.Difference.{difference, jet-difference, square-difference, equal-of-zero, same-everywhere}
 use Rattle.sibson.proofs.Blank.{Blank, all-zero}
 use Rattle.sibson.proofs.Exists.{meets, numbers, nodes}
 
@@ -35,9 +34,7 @@ module _ (C : Cell) (S S′ : FourCubics) where
 
   same-corners : Equal S S′ → SameCorners C S S′
   unfolding Equal SameCorners
-  same-corners e k c t = ≋-of-minus {j = jet C (S k) (at c)} {k = jet C (S′ k) (at c)}
-      (≋-trans {j = jet C (S k) (at c) ⊟ jet C (S′ k) (at c)} {k = jet C (difference (S k) (S′ k)) (at c)} {l = none}
-      (≋-sym (jet-difference C (S k) (S′ k) (at c))) (zero-jet C (difference (S k) (S′ k)) (zero-of-equal (S k) (S′ k) (e k)) (at c)))
+  same-corners e k c t = same-everywhere C (S k) (S′ k) (e k) (at c)
 
 pub uniqueness : Uniqueness
 uniqueness = record { exactly = λ C S S′ m m′. (same-corners C S S′, equal C S S′ m m′) }
@@ -51,11 +48,12 @@ the-one : (C : Cell) (S S′ : FourCubics) (j : Corner → Jet ℚ) → Meets C 
 the-one C S S′ j m m′ h h′ = uniqueness .exactly C S S′ m m′ .1 (same-numbers C S S′ j h h′)
 
 pub existence : Existence
-unfolding surface
+unfolding element
 existence = record {
   meets = meets;
   numbers = numbers;
   only = λ C n S m h. the-one C S (sibson n) (λ c. perPixel C (n c)) m (meets C n) h (numbers C n);
+  meetsNodes = λ C m. meets C (cornerNumbers C m);
   nodes = nodes;
-  onlyNodes = λ C m S s h. the-one C S (surface C m) (λ c. ofNode (m c)) s (meets C (cornerNumbers C m)) h (nodes C m);
+  onlyNodes = λ C m S s h. the-one C S (element C m) (λ c. wholes (m c)) s (meets C (cornerNumbers C m)) h (nodes C m);
 }

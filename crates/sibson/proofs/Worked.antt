@@ -1,13 +1,13 @@
 -- The examples, computed. Assumes nothing.
 use mathlib.Core.Path.{refl}
 use Rattle.sibson.specs.Cubic.{value, byR, byS, jet, bend}
-use Rattle.sibson.specs.Element.{cornerNumbers, inOrder, column, weights, weighed, halved, transposed, flipped, mirrored, swap, negateX, negateY, exchanged, topDown, leftRight, onTop, onLeft, sibson, surface}
-use Rattle.sibson.specs.Theorems.{ofNode}
+use Rattle.sibson.specs.Element.{cornerNumbers, inOrder, column, weights, weighed, halved, transposed, flipped, mirrored, swap, negateX, negateY, exchanged, topDown, leftRight, onTop, onLeft, sibson, element}
+use Rattle.sibson.specs.Theorems.{wholes}
 use Rattle.sibson.specs.Examples.{Reads, Examples}
 use Rattle.sibson.proofs.Quote.{jets}
 
 pub examples : Examples
-unfolding Reads ofNode value byR byS jet bend cornerNumbers inOrder column weights weighed halved transposed flipped mirrored swap negateX negateY exchanged topDown leftRight onTop onLeft sibson surface
+unfolding Reads wholes value byR byS jet bend cornerNumbers inOrder column weights weighed halved transposed flipped mirrored swap negateX negateY exchanged topDown leftRight onTop onLeft sibson element
 examples = record {
   sheetA = (
     jets (refl, refl, refl),
@@ -32,4 +32,9 @@ examples = record {
   astray = record { crossed = refl };
   quarters = (record { crossed = refl }, (record { crossed = refl }, (record { crossed = refl }, (record { crossed = refl }, (record { crossed = refl }, tt)))));
   planar = jets (refl, refl, refl);
+  oblongReads = (jets (refl, refl, refl), (jets (refl, refl, refl), (jets (refl, refl, refl), (jets (refl, refl, refl), tt))));
+  oblongTop = record { along-x = record { crossed = refl }; mixed = record { crossed = refl }; along-y = record { crossed = refl } };
+  oblongRight = record { along-x = record { crossed = refl }; mixed = record { crossed = refl }; along-y = record { crossed = refl } };
+  oblongBottom = record { along-x = record { crossed = refl }; mixed = record { crossed = refl }; along-y = record { crossed = refl } };
+  oblongLeft = record { along-x = record { crossed = refl }; mixed = record { crossed = refl }; along-y = record { crossed = refl } };
 }

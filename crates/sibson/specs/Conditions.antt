@@ -12,7 +12,8 @@ squareInR g k = g .c20 +ℤ g .c21 *ℤ k
 unfoldable pub squareInS : Cubic → ℤ → ℤ
 squareInS g k = g .c02 +ℤ g .c12 *ℤ k
 
--- the square term of the cross-edge slope along a piece's edge: of the derivative by s along top and bottom, of that by r along right and left
+-- the square term of the cross-edge slope along a piece's edge, times the divisor and the cell's size across it: that of the derivative by s along top and
+-- bottom, of that by r along right and left
 unfoldable pub squareTerm : Piece → Cubic → ℤ
 squareTerm top f = squareInR (byS f) (pos 0)
 squareTerm right f = squareInS (byR f) (pos 1)

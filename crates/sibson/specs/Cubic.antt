@@ -31,7 +31,7 @@ pub record Cubic : Type 0 where
   pub c03 : ℤ
   pub divisor : Positive
 
--- the ten powers in 01's order (the monomials), and the coefficient of each
+-- the ten powers (monomials) in 01's order, r²s after r³, and the coefficient of each
 pub data Power : Type 0 where
   one : Power
   r¹ : Power
@@ -121,7 +121,7 @@ pub record _≋_ (j k : Jet ℚ) : Type 0 where
   pub xSlopes : j .xSlope ≈ k .xSlope
   pub ySlopes : j .ySlope ≈ k .ySlope
 
--- a bend: the second derivatives per pixel, xx, xy and yy, in grains
+-- a bend: the second derivatives per pixel, xx, xy and yy, in grains per pixel per pixel; 01 counts them in 1/64 of that
 pub record Bend : Type 0 where
   pub xx : ℚ
   pub xy : ℚ

@@ -7,12 +7,16 @@ use Rattle.sibson.specs.Fraction.{positive}
 use Rattle.sibson.specs.Cubic.{Cell, Cubic, Power, one, r¹, s¹, r², rs, s², r³, r²s, rs², s³, Jet}
 use Rattle.sibson.specs.Piece.{top, right, bottom, left, FourCubics, Corner, leftTop, rightTop, leftBottom, rightBottom}
 
--- twelve numbers, three for each corner. Of nodes: height in grains, slopes in grains per pixel
-abbrev pub Corners : Type 0
-Corners = Corner → Jet ℤ
+-- a cell's nodes: of each, the height in grains and the slopes in grains per pixel
+abbrev pub Nodes : Type 0
+Nodes = Corner → Jet ℤ
 
--- the cell's corner numbers: height, W times x-slope, H times y-slope
-unfoldable pub cornerNumbers : Cell → Corners → Corners
+-- a cell's twelve corner numbers: of each corner, the height and the slopes in grains per cell width and per cell height
+abbrev pub CornerNumbers : Type 0
+CornerNumbers = Corner → Jet ℤ
+
+-- those of nodes: height, W times x-slope, H times y-slope (formulas 102 to 104)
+unfoldable pub cornerNumbers : Cell → Nodes → CornerNumbers
 cornerNumbers C m c = record {
   height = m c .height;
   xSlope = pos (C .W .number) *ℤ m c .xSlope;
@@ -27,7 +31,7 @@ inOrder n =
 
 -- ---- piece 0
 
--- a place of a row
+-- a power's place in a row
 unfoldable pub column : Power → ℕ
 column one = 0
 column r¹ = 1
@@ -72,7 +76,7 @@ weighed (row ∷ rows) [] p = pos 0
 weighed (row ∷ rows) (n ∷ ns) p = getD row (column p) (pos 0) *ℤ n +ℤ weighed rows ns p
 
 -- the cubic that a table of doubled weights gives for twelve corner numbers
-unfoldable pub halved : List (List ℤ) → Corners → Cubic
+unfoldable pub halved : List (List ℤ) → CornerNumbers → Cubic
 halved table n = record {
   c00 = weighed table (inOrder n) one;
   c10 = weighed table (inOrder n) r¹;
@@ -143,14 +147,14 @@ exchanged n leftBottom = swap (n rightTop)
 exchanged n rightBottom = swap (n rightBottom)
 
 -- top and bottom corners exchanged, y-slopes negated
-unfoldable pub topDown : Corners → Corners
+unfoldable pub topDown : CornerNumbers → CornerNumbers
 topDown n leftTop = negateY (n leftBottom)
 topDown n rightTop = negateY (n rightBottom)
 topDown n leftBottom = negateY (n leftTop)
 topDown n rightBottom = negateY (n rightTop)
 
 -- left and right corners exchanged, x-slopes negated
-unfoldable pub leftRight : Corners → Corners
+unfoldable pub leftRight : CornerNumbers → CornerNumbers
 leftRight n leftTop = negateX (n rightTop)
 leftRight n rightTop = negateX (n leftTop)
 leftRight n leftBottom = negateX (n rightBottom)
@@ -159,19 +163,19 @@ leftRight n rightBottom = negateX (n leftBottom)
 -- ---- the set we read from, for a cell's twelve corner numbers
 
 -- piece 0, and piece 3: piece 0 at (s, r)
-unfoldable pub onTop : Corners → Cubic
+unfoldable pub onTop : CornerNumbers → Cubic
 onTop n = halved weights n
 
-unfoldable pub onLeft : Corners → Cubic
+unfoldable pub onLeft : CornerNumbers → Cubic
 onLeft n = transposed (onTop (exchanged n))
 
 -- piece 2 is piece 0 at (r, 1 − s), piece 1 is piece 3 at (1 − r, s)
-unfoldable pub sibson : Corners → FourCubics
+unfoldable pub sibson : CornerNumbers → FourCubics
 sibson n top = onTop n
 sibson n right = mirrored (onLeft (leftRight n))
 sibson n bottom = flipped (onTop (topDown n))
 sibson n left = onLeft n
 
 -- the same for a cell's nodes
-unfoldable pub surface : Cell → Corners → FourCubics
-surface C m = sibson (cornerNumbers C m)
+unfoldable pub element : Cell → Nodes → FourCubics
+element C m = sibson (cornerNumbers C m)

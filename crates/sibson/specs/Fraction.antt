@@ -52,7 +52,7 @@ x +ℚ y = record {
 abbrev pub _*ℚ_ : ℚ → ℚ → ℚ
 x *ℚ y = record { numerator = x .numerator *ℤ y .numerator; denominator = x .denominator *⁺ y .denominator }
 
--- a whole multiple, and a fraction of it
+-- a whole multiple, and the quotient by a natural above 0
 abbrev pub _·ℚ_ : ℤ → ℚ → ℚ
 c ·ℚ x = record { numerator = c *ℤ x .numerator; denominator = x .denominator }
 

@@ -5,7 +5,7 @@ use lib.IntN.{pos}
 use Rattle.sibson.specs.Fraction.{ℚ, _≈_, _≤ℚ_, leℚ, whole, half, complement}
 use Rattle.sibson.specs.Cubic.{Point, Cubic}
 
--- pieces 0 to 3: each lies on the cell's edge that it is named for
+-- pieces 0 to 3: each lies on the cell's edge that it is named for (the source draws r downwards and s to the right, so its figure is this one transposed)
 pub data Piece : Type 0 where
   top : Piece
   right : Piece
@@ -18,7 +18,7 @@ number right = 1
 number bottom = 2
 number left = 3
 
--- the piece after 0 is 1, after 1 is 2, after 2 is 3, after 3 is 0 (clockwise)
+-- the piece after 0 is 1, after 1 is 2, after 2 is 3, after 3 is 0
 unfoldable pub next : Piece → Piece
 next top = right
 next right = bottom

@@ -1,44 +1,72 @@
 -- That the definitions mean what they say: derivatives, turnings, linear slopes, pieces. Assumes nothing.
 use mathlib.Core.Path.{_≡_}
 use mathlib.Core.Logic.{_↔_}
-use Prim.Native.Nat.{_≤_}
+use Prim.Native.Nat.{ℕ, _+_, _≤_}
 use lib.Dec.{T}
-use lib.IntN.{ℤ, pos}
+use lib.IntN.{ℤ, pos, _+ℤ_, _*ℤ_}
 use Rattle.sibson.specs.Fraction.{Positive, ℚ, _≈_, _≤ℚ_, leℚ, _+ℚ_, _*ℚ_, _·ℚ_, _÷_, positive, whole, complement}
-use Rattle.sibson.specs.Cubic.{Cell, Point, Cubic, value, byR, byS, jet, _≋_}
+use Rattle.sibson.specs.Cubic.{Cell, Point, pixel, Cubic, _≅_, value, byR, byS, jet, _≋_, bend}
 use Rattle.sibson.specs.Piece.{Piece, top, right, bottom, left, number, next, FourCubics, InCell, triangle, pieceAt, HalfDiagonal, edge}
 use Rattle.sibson.specs.Conditions.{squareTerm, Smooth}
-use Rattle.sibson.specs.Element.{Corners, transposed, flipped, mirrored, exchanged, topDown, leftRight, sibson}
+use Rattle.sibson.specs.Element.{CornerNumbers, transposed, flipped, mirrored, exchanged, topDown, leftRight, sibson}
 
--- equality is an equivalence that sums and products respect; multiples, quotients and the test are what they are called
+-- fractions: equality is an equivalence that sums and products respect, which are those of whole numbers and distribute; multiples, quotients, order
+-- and test are what they are called
 pub record FractionLaws : Type 0 where
   pub reflexive : (x : ℚ) → x ≈ x
   pub symmetric : (x y : ℚ) → x ≈ y → y ≈ x
   pub transitive : (x y z : ℚ) → x ≈ y → y ≈ z → x ≈ z
+  pub distinct : ¬ (whole (pos 0) ≈ whole (pos 1))
   pub sums : (x x′ y y′ : ℚ) → x ≈ x′ → y ≈ y′ → x +ℚ y ≈ x′ +ℚ y′
   pub products : (x x′ y y′ : ℚ) → x ≈ x′ → y ≈ y′ → x *ℚ y ≈ x′ *ℚ y′
+  pub wholeSums : (a b : ℤ) → whole (a +ℤ b) ≈ whole a +ℚ whole b
+  pub wholeProducts : (a b : ℤ) → whole (a *ℤ b) ≈ whole a *ℚ whole b
+  pub distributive : (x y z : ℚ) → x *ℚ (y +ℚ z) ≈ x *ℚ y +ℚ x *ℚ z
   pub multiples : (c : ℤ) (x : ℚ) → c ·ℚ x ≈ whole c *ℚ x
   pub quotients : (x : ℚ) (n : Positive) → x ÷ n *ℚ whole (pos (n .number)) ≈ x
+  pub order : (x y : ℚ) → (x ≈ y) ↔ ((x ≤ℚ y) × (y ≤ℚ x))
   pub tests : (x y : ℚ) → T (leℚ x y) ↔ (x ≤ℚ y)
 
--- h f′ + h² (f″/2 + h f‴/6), for the derivatives by one of the coordinates
-unfoldable pub increment : (Cubic → Cubic) → Cubic → Point → ℚ → ℚ
-increment by f P h =
-    h *ℚ value (by f) P +ℚ h *ℚ h *ℚ (value (by (by f)) P ÷ positive 2 tt +ℚ h *ℚ (value (by (by (by f))) P ÷ positive 6 tt))
+-- equal cubics are those with the same value at every point
+pub record SameValues : Type 0 where
+  pub everywhere : (f g : Cubic) → (f ≅ g) ↔ ((P : Point) → value f P ≈ value g P)
 
--- f(r + h, s) and f(r, s + h) are f(r, s) with h times the derivative and h² times a polynomial, for every cubic: also for a derivative
+-- x + h x′ + h² (x″/2 + h x‴/6)
+unfoldable pub expansion : ℚ → ℚ → ℚ → ℚ → ℚ → ℚ
+expansion x x′ x″ x‴ h = x +ℚ h *ℚ x′ +ℚ h *ℚ h *ℚ (x″ ÷ positive 2 tt +ℚ h *ℚ (x‴ ÷ positive 6 tt))
+
+-- h pixels to the right of a point, and below it
+abbrev pub rightOf : Cell → Point → ℚ → Point
+rightOf C P h = record { r = P .r +ℚ h ÷ C .W; s = P .s }
+
+abbrev pub below : Cell → Point → ℚ → Point
+below C P h = record { r = P .r; s = P .s +ℚ h ÷ C .H }
+
+-- the derivatives are derivatives: f(r + h, s) is f(r, s) with h times the derivative and h² times a polynomial, for every cubic, so also for a derivative;
+-- slopes and bends are so too, per pixel
 pub record Derivatives : Type 0 where
-  pub along-r : (f : Cubic) (P : Point) (h : ℚ) → value f (record { r = P .r +ℚ h; s = P .s }) ≈ value f P +ℚ increment byR f P h
-  pub along-s : (f : Cubic) (P : Point) (h : ℚ) → value f (record { r = P .r; s = P .s +ℚ h }) ≈ value f P +ℚ increment byS f P h
+  pub along-r : (f : Cubic) (P : Point) (h : ℚ) →
+      value f (record { r = P .r +ℚ h; s = P .s }) ≈ expansion (value f P) (value (byR f) P) (value (byR (byR f)) P) (value (byR (byR (byR f))) P) h
+  pub along-s : (f : Cubic) (P : Point) (h : ℚ) →
+      value f (record { r = P .r; s = P .s +ℚ h }) ≈ expansion (value f P) (value (byS f) P) (value (byS (byS f)) P) (value (byS (byS (byS f))) P) h
+  pub heights-along-x : (C : Cell) (f : Cubic) (P : Point) (h : ℚ) → jet C f (rightOf C P h) .height
+      ≈ expansion (jet C f P .height) (jet C f P .xSlope) (bend C f P .xx) (value (byR (byR (byR f))) P ÷ C .W ÷ C .W ÷ C .W) h
+  pub heights-along-y : (C : Cell) (f : Cubic) (P : Point) (h : ℚ) → jet C f (below C P h) .height
+      ≈ expansion (jet C f P .height) (jet C f P .ySlope) (bend C f P .yy) (value (byS (byS (byS f))) P ÷ C .H ÷ C .H ÷ C .H) h
+  pub xSlopes-along-y : (C : Cell) (f : Cubic) (P : Point) (h : ℚ) → jet C f (below C P h) .xSlope
+      ≈ expansion (jet C f P .xSlope) (bend C f P .xy) (value (byS (byS (byR f))) P ÷ C .W ÷ C .H ÷ C .H) (value (byS (byS (byS (byR f)))) P ÷ C .W ÷ C .H ÷ C .H ÷ C .H) h
+  -- one pixel on from a pixel is the next
+  pub pixels : (C : Cell) (a b : ℕ) →
+      (rightOf C (pixel C a b) (whole (pos 1)) .r ≈ pixel C (a + 1) b .r) × (below C (pixel C a b) (whole (pos 1)) .s ≈ pixel C a (b + 1) .s)
 
 -- a turned cubic is the cubic at the turned point, and so for the set we read from
 pub record Turnings : Type 0 where
   pub transposing : (f : Cubic) (P : Point) → value (transposed f) P ≈ value f (record { r = P .s; s = P .r })
   pub flipping : (f : Cubic) (P : Point) → value (flipped f) P ≈ value f (record { r = P .r; s = complement (P .s) })
   pub mirroring : (f : Cubic) (P : Point) → value (mirrored f) P ≈ value f (record { r = complement (P .r); s = P .s })
-  pub left-of-top : (n : Corners) (P : Point) → value (sibson n left) P ≈ value (sibson (exchanged n) top) (record { r = P .s; s = P .r })
-  pub bottom-of-top : (n : Corners) (P : Point) → value (sibson n bottom) P ≈ value (sibson (topDown n) top) (record { r = P .r; s = complement (P .s) })
-  pub right-of-left : (n : Corners) (P : Point) → value (sibson n right) P ≈ value (sibson (leftRight n) left) (record { r = complement (P .r); s = P .s })
+  pub left-of-top : (n : CornerNumbers) (P : Point) → value (sibson n left) P ≈ value (sibson (exchanged n) top) (record { r = P .s; s = P .r })
+  pub bottom-of-top : (n : CornerNumbers) (P : Point) → value (sibson n bottom) P ≈ value (sibson (topDown n) top) (record { r = P .r; s = complement (P .s) })
+  pub right-of-left : (n : CornerNumbers) (P : Point) → value (sibson n right) P ≈ value (sibson (leftRight n) left) (record { r = complement (P .r); s = P .s })
 
 -- the slope across a piece's edge
 unfoldable pub crossSlope : Cell → Piece → Cubic → Point → ℚ

@@ -1,4 +1,4 @@
--- NISTIR 6718, formulas 105 to 108: the element as the source prints it. Assumes nothing.
+-- NISTIR 6718, formulas 105 to 108: the element as the source has it, four misprints put right. Assumes nothing.
 use mathlib.Core.Path.{_≡_}
 use mathlib.Core.Bool.{cond}
 use mathlib.Core.List.{List, [], _∷_, map}
@@ -7,7 +7,7 @@ use lib.IntN.{ℤ, pos, _+ℤ_}
 use Rattle.sibson.specs.Fraction.{_≈_, complement}
 use Rattle.sibson.specs.Cubic.{Point, Power, one, r¹, s¹, r², rs, s², r³, r²s, rs², s³, value}
 use Rattle.sibson.specs.Piece.{Piece, top, right, bottom, left}
-use Rattle.sibson.specs.Element.{Corners, column, +_, −_, weights, halved, sibson}
+use Rattle.sibson.specs.Element.{CornerNumbers, column, +_, −_, weights, halved, sibson}
 
 -- a term: twice its coefficient, and its power
 infix 80 _of_
@@ -18,8 +18,9 @@ pub record Term : Type 0 where
 abbrev pub _of_ : ℤ → Power → Term
 c of p = record { twice = c; power = p }
 
--- The polynomials of the twelve corner numbers, in 01's order, their terms in the source's order. In 106 and 107 (right and bottom) r stands for the
--- source's (1−r) and s for its (1−s). Four terms differ from the print, where the conditions of section 2 do: they are marked.
+-- The polynomials of the twelve corner numbers, in the order of the weights' rows, their terms in the source's order. In 106 and 107 (right and bottom) r
+-- stands for the source's (1−r) and s for its (1−s). The source's Δx and Δy are in the corner numbers. Four terms are put right, where the print breaks the
+-- conditions of section 2: in the rows below the comments. The brackets that 106 lacks round its first polynomial (97 has them) are taken as meant.
 unfoldable pub formula : Piece → List (List Term)
 formula top =
     (+ 2 of one ∷ − 6 of s² ∷ − 6 of r² ∷ + 2 of s³ ∷ + 4 of r³ ∷ + 6 of rs² ∷ []) ∷
@@ -42,7 +43,7 @@ formula right =
     (− 1 of r³ ∷ + 2 of r²s ∷ + 1 of r² ∷ − 2 of rs ∷ []) ∷
     (− 1 of r²s ∷ − 2 of s³ ∷ + 2 of s² ∷ []) ∷
     (− 2 of r³ ∷ − 6 of r²s ∷ + 6 of r² ∷ []) ∷
-    -- printed with a square for the cube
+    -- x-slope 01: printed with ½ (1−r)² for ½ (1−r)³
     (− 1 of r³ ∷ − 2 of r²s ∷ + 2 of r² ∷ []) ∷
     (+ 1 of r²s ∷ − 1 of r² ∷ []) ∷
     (+ 2 of r³ ∷ + 6 of r²s ∷ + 4 of s³ ∷ − 6 of r² ∷ − 6 of s² ∷ + 2 of one ∷ []) ∷
@@ -51,14 +52,14 @@ formula right =
 formula bottom =
     (+ 6 of rs² ∷ − 2 of s³ ∷ []) ∷
     (+ 1 of rs² ∷ []) ∷
-    -- printed with ½ (1−r)(1−s)²
+    -- y-slope 00: printed with ½ (1−r)(1−s)² for (1−r)(1−s)²
     (+ 2 of rs² ∷ − 1 of s³ ∷ []) ∷
     (− 6 of rs² ∷ − 2 of s³ ∷ + 6 of s² ∷ []) ∷
     (+ 1 of rs² ∷ − 1 of s² ∷ []) ∷
     (− 2 of rs² ∷ − 1 of s³ ∷ + 2 of s² ∷ []) ∷
     (− 4 of r³ ∷ − 6 of rs² ∷ + 2 of s³ ∷ + 6 of r² ∷ []) ∷
     (− 2 of r³ ∷ − 1 of rs² ∷ + 2 of r² ∷ []) ∷
-    -- printed with a square for the cube
+    -- y-slope 01: printed with ½ (1−s)² for ½ (1−s)³
     (+ 2 of rs² ∷ − 1 of s³ ∷ − 2 of rs ∷ + 1 of s² ∷ []) ∷
     (+ 4 of r³ ∷ + 6 of rs² ∷ + 2 of s³ ∷ − 6 of r² ∷ − 6 of s² ∷ + 2 of one ∷ []) ∷
     (− 2 of r³ ∷ − 1 of rs² ∷ + 4 of r² ∷ + 1 of s² ∷ − 2 of r¹ ∷ []) ∷
@@ -66,7 +67,7 @@ formula bottom =
 formula left =
     (+ 2 of r³ ∷ + 6 of r²s ∷ + 4 of s³ ∷ − 6 of r² ∷ − 6 of s² ∷ + 2 of one ∷ []) ∷
     (+ 1 of r³ ∷ + 2 of r²s ∷ − 3 of r² ∷ − 2 of rs ∷ + 2 of r¹ ∷ []) ∷
-    -- printed with r³ for s³
+    -- y-slope 00: printed with r³ for s³
     (+ 1 of r²s ∷ + 2 of s³ ∷ − 1 of r² ∷ − 4 of s² ∷ + 2 of s¹ ∷ []) ∷
     (− 2 of r³ ∷ − 6 of r²s ∷ + 6 of r² ∷ []) ∷
     (+ 1 of r³ ∷ + 2 of r²s ∷ − 2 of r² ∷ []) ∷
@@ -100,4 +101,4 @@ pub record Sources : Type 0 where
   -- 01's table is formula 105
   pub weightsAre : weights ≡ table top
   -- the set we read from is formulas 105 to 108 at every point
-  pub pieces : (k : Piece) (n : Corners) (P : Point) → value (sibson n k) P ≈ value (halved (table k) n) (source k P)
+  pub pieces : (k : Piece) (n : CornerNumbers) (P : Point) → value (sibson n k) P ≈ value (halved (table k) n) (source k P)

@@ -2,7 +2,7 @@
 ghost use mathlib.Core.Path.{_≡_};
 ghost use Rattle.sibson.specs.Theorems.{Uniqueness, Existence, Edges};
 ghost use Rattle.sibson.specs.Needed.{Needed};
-ghost use Rattle.sibson.specs.Sense.{FractionLaws, Derivatives, Turnings, Linearity, Covering};
+ghost use Rattle.sibson.specs.Sense.{FractionLaws, SameValues, Derivatives, Turnings, Linearity, Covering};
 ghost use Rattle.sibson.specs.Source.{Sources};
 ghost use Rattle.sibson.specs.Examples.{Examples};
 
@@ -32,6 +32,12 @@ pub fn needed() -> u64
 
 pub fn fraction_laws() -> u64
     ensures { λ r. ⌜ (r ≡ 0) × FractionLaws ⌝ }
+{
+    0
+}
+
+pub fn same_values() -> u64
+    ensures { λ r. ⌜ (r ≡ 0) × SameValues ⌝ }
 {
     0
 }
