@@ -1,6 +1,6 @@
--- A set that meets the conditions and has nothing at the corners is 0. Along its own edge a piece is s² (α + β r + γ s), seen from that edge. Where
--- two pieces meet, their slopes at the centre and half way to the corner give α + β = 0 for the one and α = 0 for the next; so α = β = 0 for each,
--- by a quarter turn of the cell, and then γ = 0. Assumes nothing.
+-- A set that meets the conditions and has nothing at the corners is 0. Seen from its own edge, with s the distance from it, a piece is s² (α + β r + γ s).
+-- Where two pieces meet, their slopes at the centre and half way to the corner give α + β = 0 for the one and α = 0 for the next; so α = β = 0 for each, by a
+-- quarter turn of the cell, and then γ = 0. Assumes nothing.
 use mathlib.Core.Path.{_≡_, refl, sym, subst₂}
 use mathlib.Core.List.{[], _∷_}
 use Prim.Native.Nat.{ℕ, _-_, _*_}
@@ -11,7 +11,7 @@ use lib.Signed.{leZ-yes}
 use Rattle.sibson.specs.Fraction.{ℚ, _÷_, positive, whole, half, complement}
 use Rattle.sibson.specs.Cubic.{Cell, Point, Cubic, Power, one, r¹, s¹, r², rs, s², r³, r²s, rs², s³, coefficient, value, byR, byS, jet, _≋_}
 use Rattle.sibson.specs.Piece.{Piece, top, right, bottom, left, next, FourCubics, HalfDiagonal, leftTop, rightTop, at}
-use Rattle.sibson.specs.Conditions.{Smooth, squareTerm, squareInR}
+use Rattle.sibson.specs.Conditions.{Smooth, Meets, squareTerm, squareInR}
 use Rattle.integers.proofs.Polynomial.{Expr, #_, _⊗_, _⊕_, ⊖_}
 use Rattle.integers.proofs.Solve.{Claim, _≐_}
 use Rattle.integers.proofs.Deduce.{_·_, _⊨_, deduce, certified-sound}
@@ -24,15 +24,16 @@ use Rattle.sibson.proofs.Rotation.{rotated, onSide, quarter, rotatedSet
 use Rattle.sibson.proofs.Coefficients.{edgewise, Squared, is-edgewise, Zero}
 
 pub record Blank (C : Cell) (D : FourCubics) : Type 0 where
-  pub smooth : Smooth C D
-  pub linear : (k : Piece) → squareTerm k (D k) ≡ pos 0
+  pub meets : Meets C D
   pub corners : NothingAtCorners C D
 
 blank-rotated : {C : Cell} {D : FourCubics} → Blank C D → Blank (onSide C) (rotatedSet D)
 unfolding rotatedSet Smooth
 blank-rotated {C} {D} b = record {
-  smooth = λ k. smooth-rotated C D k (b .smooth (next k));
-  linear = λ k. square-rotated k (D (next k)) (b .linear (next k));
+  meets = record {
+    smooth = λ k. smooth-rotated C D k (b .meets .smooth (next k));
+    linear = λ k. square-rotated k (D (next k)) (b .meets .linear (next k));
+  };
   corners = corners-rotated C D (b .corners);
 }
 
@@ -73,7 +74,7 @@ squares f a b q = record {
 top-squared : {C : Cell} {D : FourCubics} → Blank C D → Squared (D top)
 unfolding NothingAtCorners
 top-squared {C} {D} b =
-    squares (D top) (nothing-at C (D top) (at leftTop) (b .corners top leftTop tt)) (nothing-at C (D top) (at rightTop) (b .corners top rightTop tt)) (b .linear top)
+    squares (D top) (nothing-at C (D top) (at leftTop) (b .corners top leftTop tt)) (nothing-at C (D top) (at rightTop) (b .corners top rightTop tt)) (b .meets .linear top)
 
 -- ---- where two pieces meet
 
@@ -95,7 +96,7 @@ unfolding jet byR byS Smooth next
 joint C D b t h e = let f = D top in let g = rotated (D right) in
     let j : quarter (jet C f (meeting t)) ≋ jet (onSide C) g (turnedMeeting t) =
     ≋-trans {j = quarter (jet C f (meeting t))} {k = quarter (jet C (D right) (meeting t))} {l = jet (onSide C) g (turnedMeeting t)}
-    (≋-quarter (b .smooth top (meeting t) h)) (≋-sym (rotated-jet C (D right) (turnedMeeting t))) in
+    (≋-quarter (b .meets .smooth top (meeting t) h)) (≋-sym (rotated-jet C (D right) (turnedMeeting t))) in
     record {
       x = numerators (byS f) (byR g) (meeting t) (turnedMeeting t) (pos 1) e
           (≈-trans {y = value (byR g) (turnedMeeting t)} (≈-÷-cancel (C .H) (j .xSlopes)) (≈-once (value (byR g) (turnedMeeting t))));

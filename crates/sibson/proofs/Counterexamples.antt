@@ -11,10 +11,10 @@ use lib.IntN.{ℤ, pos, natAbs}
 use Rattle.sibson.specs.Fraction.{Positive, positive}
 use Rattle.sibson.specs.Cubic.{Cell, Cubic, Power, one, r¹, s¹, r², rs, s², r³, r²s, rs², s³, coefficient, _≅_, jet}
 use Rattle.sibson.specs.Piece.{Piece, top, right, bottom, left, number, next, FourCubics, triangle, Corner, at}
-use Rattle.sibson.specs.Conditions.{squareTerm, Smooth, SameCorners, Equal}
+use Rattle.sibson.specs.Conditions.{Smooth, SameCorners, Equal}
 use Rattle.sibson.specs.Element.{+_, −_}
 use Rattle.sibson.specs.Theorems.{perPixel}
-use Rattle.sibson.specs.Needed.{Counterexample, Needed}
+use Rattle.sibson.specs.Needed.{MeetsSome, Counterexample, Needed}
 use Rattle.integers.proofs.Polynomial.{con, #_, _⊗_}
 use Rattle.integers.proofs.Solve.{_≐_}
 use Rattle.integers.proofs.Deduce.{_·_, _⊨_, deduce, both}
@@ -22,7 +22,7 @@ use Rattle.sibson.proofs.Finite.{everyPiece, every-piece, everyCorner, 
 use Rattle.sibson.proofs.Jets.{≋-sym, ≋-trans, none}
 use Rattle.sibson.proofs.Quote.{Cubicₑ}
 use Rattle.sibson.proofs.Evaluate.{zeroes, zeroes-none, flatₑ}
-use Rattle.sibson.proofs.Places.{joins, joined, SmoothAt, smooth-at, flat, no-square, has, has-numbers}
+use Rattle.sibson.proofs.Places.{joins, joined, smooth-at, flat, no-square, has, has-numbers}
 use Rattle.sibson.proofs.Coefficients.{Zero}
 use Rattle.sibson.proofs.Rotation.{rotatedSet, onSide, smooth-rotated, square-rotated, NothingAtCorners, corners-rotated, zero-rotated}
 
@@ -82,8 +82,7 @@ nothing c C b k v t = ≋-trans {j = jet C (whole-cubic (c k)) (at v)} {k = perP
 -- not 0, nothing at the corners, and some of the conditions
 record Witness (diagonals edges : Piece → Type 0) (C : Cell) : Type 0 where
   D : FourCubics
-  smooth : (k : Piece) → diagonals k → SmoothAt C D k
-  linear : (k : Piece) → edges k → squareTerm k (D k) ≡ pos 0
+  meets : MeetsSome diagonals edges C D
   corners : NothingAtCorners C D
   where-not : Piece
   not-zero : ¬ Zero (D where-not)
@@ -117,8 +116,10 @@ turned : {diagonals edges diagonals′ edges′ : Piece → Type 0} {C : Cell} �
 unfolding rotatedSet
 turned {C = C} d e w = record {
   D = rotatedSet (w .D);
-  smooth = λ k t. smooth-rotated (onSide C) (w .D) k (w .smooth (next k) (d k t));
-  linear = λ k t. square-rotated k (w .D (next k)) (w .linear (next k) (e k t));
+  meets = record {
+    smooth = λ k t. smooth-rotated (onSide C) (w .D) k (w .meets .smooth (next k) (d k t));
+    linear = λ k t. square-rotated k (w .D (next k)) (w .meets .linear (next k) (e k t));
+  };
   corners = corners-rotated (onSide C) (w .D) (w .corners);
   where-not = previous (w .where-not);
   not-zero = λ z. w .not-zero (subst (λ k. Zero (w .D k)) (next-previous (w .where-not)) (zero-rotated (w .D (next (previous (w .where-not)))) z));
@@ -133,8 +134,10 @@ exhibit : (diagonals edges : Piece → Bool) (c : Coefficients) → T (passes c 
 unfolding Zero
 exhibit diagonals edges c t k p n C = record {
   D = λ l. whole-cubic (c l);
-  smooth = λ l e. smooth-at C (λ k. whole-cubic (c k)) l (joined C (quoted c) unit [] l (implied (diagonals l) (joins (quoted c) l) (parts l .0) e));
-  linear = λ l e. no-square [] (quoted c) unit l (implied (edges l) (flat (quoted c) l) (parts l .1) e);
+  meets = record {
+    smooth = λ l e. smooth-at C (λ k. whole-cubic (c k)) l (joined C (quoted c) unit [] l (implied (diagonals l) (joins (quoted c) l) (parts l .0) e));
+    linear = λ l e. no-square [] (quoted c) unit l (implied (edges l) (flat (quoted c) l) (parts l .1) e);
+  };
   corners = nothing c C (λ l v. every-corner (λ u. bare c l u) (parts l .2) v);
   where-not = k;
   not-zero = λ z. nonzero (z p);
@@ -155,8 +158,7 @@ fewer : {diagonals edges diagonals′ edges′ : Piece → Type 0} {C : Cell} �
     ((k : Piece) → diagonals′ k → diagonals k) → ((k : Piece) → edges′ k → edges k) → Witness diagonals edges C → Witness diagonals′ edges′ C
 fewer d e w = record {
   D = w .D;
-  smooth = λ k t. w .smooth k (d k t);
-  linear = λ k t. w .linear k (e k t);
+  meets = record { smooth = λ k t. w .meets .smooth k (d k t); linear = λ k t. w .meets .linear k (e k t) };
   corners = w .corners;
   where-not = w .where-not;
   not-zero = w .not-zero;
@@ -276,7 +278,7 @@ unfolding zeros SameCorners NothingAtCorners Equal Zero next
 counterexample {C = C} w = record {
   S = w .D;
   S′ = λ k. whole-cubic (zeros k);
-  meets = record { smooth = w .smooth; linear = w .linear };
+  meets = w .meets;
   meets′ = record {
     smooth = λ k t. smooth-at C (λ l. whole-cubic (zeros l)) k (joined C (quoted zeros) unit [] k (every-piece (joins (quoted zeros)) tt k));
     linear = λ k t. no-square [] (quoted zeros) unit k (every-piece (flat (quoted zeros)) tt k);

@@ -4,7 +4,7 @@ use mathlib.Core.Bool.{Bool}
 use mathlib.Core.List.{[], _∷_}
 use lib.Dec.{T}
 use lib.IntN.{pos, negℤ}
-use Rattle.sibson.specs.Fraction.{ℚ, _≈_, _·ℚ_, half, complement}
+use Rattle.sibson.specs.Fraction.{ℚ, _≈_, _·ℚ_, complement}
 use Rattle.sibson.specs.Cubic.{Cell, Point, Cubic, one, r¹, s¹, r², rs, s², r³, r²s, rs², s³, value, byR, byS, Jet, jet, _≋_}
 use Rattle.sibson.specs.Piece.{Piece, top, right, bottom, left, next, FourCubics, triangle, HalfDiagonal, Corner, leftTop, rightTop, leftBottom, rightBottom, at}
 use Rattle.sibson.specs.Conditions.{squareTerm, squareInR, squareInS}

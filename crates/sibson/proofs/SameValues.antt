@@ -5,7 +5,7 @@ use Prim.Native.Nat.{ℕ}
 use lib.Dec.{ltb→lt}
 use lib.IntN.{ℤ, pos, _*ℤ_}
 use Rattle.sibson.specs.Fraction.{_≈_, _-ℚ_, positive, whole}
-use Rattle.sibson.specs.Cubic.{Cell, Point, Cubic, Power, one, r¹, s¹, r², rs, s², r³, r²s, rs², s³, coefficient, _≅_, value, jet}
+use Rattle.sibson.specs.Cubic.{Cell, Point, Cubic, Power, one, r¹, s¹, r², rs, s², r³, r²s, rs², s³, coefficient, value, jet}
 use Rattle.sibson.specs.Sense.{SameValues}
 use Rattle.integers.proofs.Polynomial.{#_, _⊗_, ⊖_}
 use Rattle.integers.proofs.Solve.{Claim}

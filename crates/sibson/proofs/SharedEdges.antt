@@ -6,7 +6,7 @@ use lib.IntN.{ℤ, pos, negℤ, _+ℤ_, _*ℤ_}
 use Rattle.sibson.specs.Fraction.{Positive, positive, ℚ, _+ℚ_, _-ℚ_, _*ℚ_, _·ℚ_, _÷_, complement}
 use Rattle.sibson.specs.Cubic.{Cell, Point, Cubic, byR, byS, Jet, jet, _≋_}
 use Rattle.sibson.specs.Piece.{Piece, top, right, bottom, left, edge, leftTop, rightTop, leftBottom, rightBottom}
-use Rattle.sibson.specs.Element.{Nodes, CornerNumbers, cornerNumbers, inOrder, column, weights, weighed, halved, transposed, flipped, mirrored, swap, negateX, negateY, exchanged, topDown, leftRight, onTop, onLeft, sibson, element}
+use Rattle.sibson.specs.Element.{Nodes, cornerNumbers, inOrder, column, weights, weighed, halved, transposed, flipped, mirrored, swap, negateX, negateY, exchanged, topDown, leftRight, onTop, onLeft, sibson, element}
 use Rattle.sibson.specs.Theorems.{lengthOf, first, last, AgreeAlong, Edges}
 use Rattle.integers.proofs.Polynomial.{Expr, #_, _⊕_, _⊗_, ⊖_}
 use Rattle.sibson.proofs.Fractions.{≈-÷}

@@ -19,11 +19,13 @@ module _ (C : Cell) (S S′ : FourCubics) where
   blank : Meets C S → Meets C S′ → SameCorners C S S′ → Blank C D
   unfolding D Smooth SameCorners NothingAtCorners
   blank m m′ e = record {
-    smooth = λ k P h.
-        ≋-trans {j = jet C (D k) P} {k = jet C (S k) P ⊟ jet C (S′ k) P} {l = jet C (D (next k)) P} (jet-difference C (S k) (S′ k) P)
-        (≋-trans {j = jet C (S k) P ⊟ jet C (S′ k) P} {k = jet C (S (next k)) P ⊟ jet C (S′ (next k)) P} {l = jet C (D (next k)) P}
-        (≋-⊟ (m .smooth k P h) (m′ .smooth k P h)) (≋-sym (jet-difference C (S (next k)) (S′ (next k)) P)));
-    linear = λ k. square-difference k (S k) (S′ k) (m .linear k) (m′ .linear k);
+    meets = record {
+      smooth = λ k P h.
+          ≋-trans {j = jet C (D k) P} {k = jet C (S k) P ⊟ jet C (S′ k) P} {l = jet C (D (next k)) P} (jet-difference C (S k) (S′ k) P)
+          (≋-trans {j = jet C (S k) P ⊟ jet C (S′ k) P} {k = jet C (S (next k)) P ⊟ jet C (S′ (next k)) P} {l = jet C (D (next k)) P}
+          (≋-⊟ (m .smooth k P h) (m′ .smooth k P h)) (≋-sym (jet-difference C (S (next k)) (S′ (next k)) P)));
+      linear = λ k. square-difference k (S k) (S′ k) (m .linear k) (m′ .linear k);
+    };
     corners = λ k c t.
         ≋-trans {j = jet C (D k) (at c)} {k = jet C (S k) (at c) ⊟ jet C (S′ k) (at c)} {l = none} (jet-difference C (S k) (S′ k) (at c)) (≋-minus (e k c t));
   }

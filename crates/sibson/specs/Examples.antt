@@ -4,7 +4,7 @@ use Prim.Native.Nat.{ℕ}
 use lib.IntN.{ℤ}
 use Rattle.sibson.specs.Fraction.{_≈_, whole, _÷_, positive}
 use Rattle.sibson.specs.Cubic.{Cell, pixel, Jet, jet, _≋_, bend}
-use Rattle.sibson.specs.Piece.{Piece, left, pieceAt, leftTop, rightTop, leftBottom, rightBottom}
+use Rattle.sibson.specs.Piece.{left, pieceAt, leftTop, rightTop, leftBottom, rightBottom}
 use Rattle.sibson.specs.Element.{Nodes, +_, −_, element}
 use Rattle.sibson.specs.Theorems.{wholes}
 
