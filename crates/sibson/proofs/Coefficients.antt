@@ -1,13 +1,26 @@
 -- Cubics some or all of whose coefficients are 0. Assumes nothing.
-use mathlib.Core.Path.{_≡_, sym, _∙_, subst}
+use mathlib.Core.Path.{_≡_, refl, sym, subst}
 use mathlib.Core.List.{[]}
 use lib.IntN.{ℤ, pos}
 use Rattle.sibson.specs.Fraction.{Positive}
-use Rattle.sibson.specs.Cubic.{Cell, Point, Cubic, Power, one, r¹, s¹, r², rs, s², r³, r²s, rs², s³, coefficient, byR, byS, jet, _≋_}
+use Rattle.sibson.specs.Cubic.{Cell, Point, Cubic, Power, one, r¹, s¹, r², rs, s², r³, r²s, rs², s³, coefficient, cubicOf, byR, byS, jet, _≋_}
 use Rattle.integers.proofs.Polynomial.{#_}
 use Rattle.sibson.proofs.Jets.{none}
-use Rattle.sibson.proofs.Quote.{Cubicₑ, fractionₑ, fraction}
-use Rattle.sibson.proofs.Evaluate.{numerator, numeratorsAt, none-at, numeratorsₑ, flatₑ, same-three}
+use Rattle.sibson.proofs.Quote.{Cubicₑ, cubicOfₑ, fractionₑ, fraction, same-three}
+use Rattle.sibson.proofs.Evaluate.{numerator, numeratorsAt, none-at, numeratorsₑ, flatₑ}
+
+-- the coefficients of the cubic with given coefficients
+pub coefficient-of : (c : Power → ℤ) (d : Positive) (p : Power) → coefficient (cubicOf c d) p ≡ c p
+coefficient-of c d one = refl
+coefficient-of c d r¹ = refl
+coefficient-of c d s¹ = refl
+coefficient-of c d r² = refl
+coefficient-of c d rs = refl
+coefficient-of c d s² = refl
+coefficient-of c d r³ = refl
+coefficient-of c d r²s = refl
+coefficient-of c d rs² = refl
+coefficient-of c d s³ = refl
 
 -- ---- three coefficients
 
@@ -61,15 +74,14 @@ unfoldable pub Zero : Cubic → Type 0
 Zero f = (p : Power) → coefficient f p ≡ pos 0
 
 abbrev blank : Cubic → Cubic
-blank f = squared (pos 0) (pos 0) (pos 0) (f .divisor)
+blank f = cubicOf (λ p. pos 0) (f .divisor)
 
 is-blank : (f : Cubic) → Zero f → f ≡ blank f
 unfolding Zero
-is-blank f z = is-edgewise f (record { z00 = z one; z10 = z r¹; z01 = z s¹; z20 = z r²; z11 = z rs; z30 = z r³; z21 = z r²s })
-    ∙ (λ i. squared (z s² i) (z rs² i) (z s³ i) (f .divisor))
+is-blank f z = λ i. cubicOf (λ p. z p i) (f .divisor)
 
 abbrev blankₑ : Cubicₑ
-blankₑ = record { c00 = # 0; c10 = # 0; c01 = # 0; c20 = # 0; c11 = # 0; c02 = # 0; c30 = # 0; c21 = # 0; c12 = # 0; c03 = # 0; divisor = # 1 }
+blankₑ = cubicOfₑ (λ p. # 0) (# 1)
 
 blank-jet : (C : Cell) (f : Cubic) (P : Point) → jet C (blank f) P ≋ none
 unfolding numeratorsAt numerator byR byS

@@ -9,10 +9,10 @@ use lib.Dec.{T, ltb, ltb→lt}
 use lib.ListN.{getD}
 use lib.IntN.{ℤ, pos, natAbs}
 use Rattle.sibson.specs.Fraction.{Positive, positive}
-use Rattle.sibson.specs.Cubic.{Cell, Cubic, Power, one, r¹, s¹, r², rs, s², r³, r²s, rs², s³, coefficient, _≅_, jet}
+use Rattle.sibson.specs.Cubic.{Cell, Cubic, Power, one, r¹, s¹, r², rs, s², r³, r²s, rs², s³, coefficient, cubicOf, _≅_, jet}
 use Rattle.sibson.specs.Piece.{Piece, top, right, bottom, left, number, next, FourCubics, triangle, Corner, at}
 use Rattle.sibson.specs.Conditions.{Smooth, SameCorners, Equal}
-use Rattle.sibson.specs.Element.{+_, −_}
+use Rattle.sibson.specs.Element.{column, +_, −_}
 use Rattle.sibson.specs.Theorems.{perPixel}
 use Rattle.sibson.specs.Needed.{MeetsSome, Counterexample, Needed}
 use Rattle.integers.proofs.Polynomial.{con, #_, _⊗_}
@@ -20,10 +20,10 @@ use Rattle.integers.proofs.Solve.{_≐_}
 use Rattle.integers.proofs.Deduce.{_·_, _⊨_, deduce, both}
 use Rattle.sibson.proofs.Finite.{everyPiece, every-piece, everyCorner, every-corner, implies, implied, differs, apart, and}
 use Rattle.sibson.proofs.Jets.{≋-sym, ≋-trans, none}
-use Rattle.sibson.proofs.Quote.{Cubicₑ}
+use Rattle.sibson.proofs.Quote.{Cubicₑ, cubicOfₑ}
 use Rattle.sibson.proofs.Evaluate.{zeroes, zeroes-none, flatₑ}
 use Rattle.sibson.proofs.Places.{joins, joined, smooth-at, flat, no-square, has, has-numbers}
-use Rattle.sibson.proofs.Coefficients.{Zero}
+use Rattle.sibson.proofs.Coefficients.{coefficient-of, Zero}
 use Rattle.sibson.proofs.Rotation.{rotatedSet, onSide, smooth-rotated, square-rotated, NothingAtCorners, corners-rotated, zero-rotated}
 
 -- ---- sets of whole coefficients, in the powers' order
@@ -31,51 +31,39 @@ use Rattle.sibson.proofs.Rotation.{rotatedSet, onSide, smooth-rotated, 
 abbrev unit : Positive
 unit = positive 1 tt
 
-abbrev whole-cubic : List ℤ → Cubic
-whole-cubic c = record {
-  c00 = getD c 0 (pos 0);
-  c10 = getD c 1 (pos 0);
-  c01 = getD c 2 (pos 0);
-  c20 = getD c 3 (pos 0);
-  c11 = getD c 4 (pos 0);
-  c02 = getD c 5 (pos 0);
-  c30 = getD c 6 (pos 0);
-  c21 = getD c 7 (pos 0);
-  c12 = getD c 8 (pos 0);
-  c03 = getD c 9 (pos 0);
-  divisor = unit;
-}
-
-abbrev whole-cubicₑ : List ℤ → Cubicₑ
-whole-cubicₑ c = record {
-  c00 = con (getD c 0 (pos 0));
-  c10 = con (getD c 1 (pos 0));
-  c01 = con (getD c 2 (pos 0));
-  c20 = con (getD c 3 (pos 0));
-  c11 = con (getD c 4 (pos 0));
-  c02 = con (getD c 5 (pos 0));
-  c30 = con (getD c 6 (pos 0));
-  c21 = con (getD c 7 (pos 0));
-  c12 = con (getD c 8 (pos 0));
-  c03 = con (getD c 9 (pos 0));
-  divisor = # 1;
-}
-
 abbrev Coefficients : Type 0
 Coefficients = Piece → List ℤ
 
--- the same, quoted
-abbrev quoted : Coefficients → Piece → Cubicₑ
-quoted c k = whole-cubicₑ (c k)
+abbrev cubics : Coefficients → FourCubics
+cubics c k = cubicOf (λ p. getD (c k) (column p) (pos 0)) unit
 
--- a piece has nothing at a corner that it touches
+abbrev quoted : Coefficients → Piece → Cubicₑ
+quoted c k = cubicOfₑ (λ p. con (getD (c k) (column p) (pos 0))) (# 1)
+
+-- the tests of a piece: some half diagonals, some edges, and nothing at the corners that it touches
 abbrev bare : Coefficients → Piece → Corner → Bool
 bare c k v = implies (triangle k (at v)) (has (quoted c k) unit flatₑ v)
 
-nothing : (c : Coefficients) (C : Cell) → ((k : Piece) (v : Corner) → T (bare c k v)) → NothingAtCorners C (λ k. whole-cubic (c k))
-unfolding NothingAtCorners
-nothing c C b k v t = ≋-trans {j = jet C (whole-cubic (c k)) (at v)} {k = perPixel C zeroes} {l = none}
-    (has-numbers C [] (quoted c k) unit flatₑ v (implied (triangle k (at v)) (has (quoted c k) unit flatₑ v) (b k v) t)) (zeroes-none C)
+abbrev passes : (Piece → Bool) → (Piece → Bool) → Coefficients → Piece → Bool
+passes diagonals edges c k = implies (diagonals k) (joins (quoted c) k) && (implies (edges k) (flat (quoted c) k) && everyCorner (bare c k))
+
+-- passed, they show that the conditions hold and nothing is at the corners
+module _ (diagonals edges : Piece → Bool) (c : Coefficients) (C : Cell) (t : T (everyPiece (passes diagonals edges c))) where
+  parts : (k : Piece) → T (implies (diagonals k) (joins (quoted c) k)) × T (implies (edges k) (flat (quoted c) k)) × T (everyCorner (bare c k))
+  parts k =
+      let (a, u) = both (implies (diagonals k) (joins (quoted c) k)) (implies (edges k) (flat (quoted c) k) && everyCorner (bare c k)) (every-piece (passes diagonals edges c) t k) in
+      let (b, v) = both (implies (edges k) (flat (quoted c) k)) (everyCorner (bare c k)) u in (a, b, v)
+
+  meets : MeetsSome (λ k. T (diagonals k)) (λ k. T (edges k)) C (cubics c)
+  meets = record {
+    smooth = λ k d. smooth-at C (cubics c) k (joined C (quoted c) unit [] k (implied (diagonals k) (joins (quoted c) k) (parts k .0) d));
+    linear = λ k e. no-square [] (quoted c) unit k (implied (edges k) (flat (quoted c) k) (parts k .1) e);
+  }
+
+  corners : NothingAtCorners C (cubics c)
+  unfolding NothingAtCorners
+  corners k v s = ≋-trans {j = jet C (cubics c k) (at v)} {k = perPixel C zeroes} {l = none}
+      (has-numbers C [] (quoted c k) unit flatₑ v (implied (triangle k (at v)) (has (quoted c k) unit flatₑ v) (every-corner (bare c k) (parts k .2) v) s)) (zeroes-none C)
 
 -- ---- witnesses
 
@@ -87,28 +75,15 @@ record Witness (diagonals edges : Piece → Type 0) (C : Cell) : Type 0 where
   where-not : Piece
   not-zero : ¬ Zero (D where-not)
 
-previous : Piece → Piece
-previous top = left
-previous right = top
-previous bottom = right
-previous left = bottom
-
-previous-next : (k : Piece) → previous (next k) ≡ k
-unfolding previous next
-previous-next top = refl
-previous-next right = refl
-previous-next bottom = refl
-previous-next left = refl
-
-next-previous : (k : Piece) → next (previous k) ≡ k
-unfolding previous next
-next-previous top = refl
-next-previous right = refl
-next-previous bottom = refl
-next-previous left = refl
+four-turns : (k : Piece) → next (next (next (next k))) ≡ k
+unfolding next
+four-turns top = refl
+four-turns right = refl
+four-turns bottom = refl
+four-turns left = refl
 
 next-apart : {k l : Piece} → ¬ (k ≡ l) → ¬ (next k ≡ next l)
-next-apart {k} {l} n e = n (sym (previous-next k) ∙ ap previous e ∙ previous-next l)
+next-apart {k} {l} n e = n (sym (four-turns k) ∙ ap (λ j. next (next (next j))) e ∙ four-turns l)
 
 -- a quarter turn
 turned : {diagonals edges diagonals′ edges′ : Piece → Type 0} {C : Cell} →
@@ -121,37 +96,24 @@ turned {C = C} d e w = record {
     linear = λ k t. square-rotated k (w .D (next k)) (w .meets .linear (next k) (e k t));
   };
   corners = corners-rotated (onSide C) (w .D) (w .corners);
-  where-not = previous (w .where-not);
-  not-zero = λ z. w .not-zero (subst (λ k. Zero (w .D k)) (next-previous (w .where-not)) (zero-rotated (w .D (next (previous (w .where-not)))) z));
+  where-not = next (next (next (w .where-not)));
+  not-zero = λ z. w .not-zero (subst (λ k. Zero (w .D k)) (four-turns (w .where-not)) (zero-rotated (w .D (next (next (next (next (w .where-not)))))) z));
 }
 
--- from coefficients that pass the tests, with one coefficient that is not 0
-abbrev passes : Coefficients → (Piece → Bool) → (Piece → Bool) → Bool
-passes c diagonals edges = everyPiece (λ k. implies (diagonals k) (joins (quoted c) k) && (implies (edges k) (flat (quoted c) k) && everyCorner (λ v. bare c k v)))
-
-exhibit : (diagonals edges : Piece → Bool) (c : Coefficients) → T (passes c diagonals edges) →
-    (k : Piece) (p : Power) → T (ltb 0 (natAbs (coefficient (whole-cubic (c k)) p))) → (C : Cell) → Witness (λ l. T (diagonals l)) (λ l. T (edges l)) C
+-- from coefficients that pass the tests, one of which is not 0
+exhibit : (diagonals edges : Piece → Bool) (c : Coefficients) → T (everyPiece (passes diagonals edges c)) →
+    (k : Piece) (p : Power) → T (ltb 0 (natAbs (coefficient (cubics c k) p))) → (C : Cell) → Witness (λ l. T (diagonals l)) (λ l. T (edges l)) C
 unfolding Zero
 exhibit diagonals edges c t k p n C = record {
-  D = λ l. whole-cubic (c l);
-  meets = record {
-    smooth = λ l e. smooth-at C (λ k. whole-cubic (c k)) l (joined C (quoted c) unit [] l (implied (diagonals l) (joins (quoted c) l) (parts l .0) e));
-    linear = λ l e. no-square [] (quoted c) unit l (implied (edges l) (flat (quoted c) l) (parts l .1) e);
-  };
-  corners = nothing c C (λ l v. every-corner (λ u. bare c l u) (parts l .2) v);
+  D = cubics c;
+  meets = meets diagonals edges c C t;
+  corners = corners diagonals edges c C t;
   where-not = k;
-  not-zero = λ z. nonzero (z p);
+  not-zero = λ z. nonzero (coefficient (cubics c k) p) n (z p);
 }
   where
-    parts : (l : Piece) → T (implies (diagonals l) (joins (quoted c) l)) × T (implies (edges l) (flat (quoted c) l)) × T (everyCorner (λ v. bare c l v))
-    parts l =
-        let (a, u) = both (implies (diagonals l) (joins (quoted c) l)) (implies (edges l) (flat (quoted c) l) && everyCorner (λ v. bare c l v))
-        (every-piece (λ k. implies (diagonals k) (joins (quoted c) k) && (implies (edges k) (flat (quoted c) k) && everyCorner (λ v. bare c k v))) t l) in
-        let (b, v) = both (implies (edges l) (flat (quoted c) l)) (everyCorner (λ v. bare c l v)) u in (a, b, v)
-
-    nonzero : ¬ (coefficient (whole-cubic (c k)) p ≡ pos 0)
-    nonzero e = let h : 0 < natAbs (coefficient (whole-cubic (c k)) p) = ltb→lt 0 (natAbs (coefficient (whole-cubic (c k)) p)) n in
-        let z : natAbs (coefficient (whole-cubic (c k)) p) ≡ 0 = ap natAbs e in absurd (omega arith)
+    nonzero : (z : ℤ) → T (ltb 0 (natAbs z)) → ¬ (z ≡ pos 0)
+    nonzero z n e = let h : 0 < natAbs z = ltb→lt 0 (natAbs z) n in let o : natAbs z ≡ 0 = ap natAbs e in absurd (omega arith)
 
 -- fewer conditions
 fewer : {diagonals edges diagonals′ edges′ : Piece → Type 0} {C : Cell} →
@@ -253,39 +215,32 @@ without-both top = both-next top (both-next right (both-next bottom no-left))
 
 -- ---- the set that is 0 is the other of each pair
 
-coefficient-zero : (p : Power) → coefficient (whole-cubic []) p ≡ pos 0
-coefficient-zero one = refl
-coefficient-zero r¹ = refl
-coefficient-zero s¹ = refl
-coefficient-zero r² = refl
-coefficient-zero rs = refl
-coefficient-zero s² = refl
-coefficient-zero r³ = refl
-coefficient-zero r²s = refl
-coefficient-zero rs² = refl
-coefficient-zero s³ = refl
-
-zero-of-nothing : (f : Cubic) (p : Power) → f ≅ whole-cubic [] → coefficient f p ≡ pos 0
-zero-of-nothing f p e =
-    deduce 3 (λ a z d. (# 1 · (a ⊗ (# 1 ⊗ # 1) ≐ z ⊗ (# 1 ⊗ d))) ∷ (d · (z ≐ # 0)) ∷ [] ⊨ a ≐ # 0) tt
-    (coefficient f p) (coefficient (whole-cubic []) p) (pos (f .divisor .number)) (e .coefficients p .crossed) (coefficient-zero p)
-
 zeros : Coefficients
 zeros k = []
 
+no-coefficient : (p : Power) (k : Piece) → coefficient (cubics zeros k) p ≡ pos 0
+unfolding zeros
+no-coefficient p k = coefficient-of (λ q. pos 0) unit p
+
+zero-of-nothing : (f : Cubic) (k : Piece) (p : Power) → f ≅ cubics zeros k → coefficient f p ≡ pos 0
+zero-of-nothing f k p e =
+    deduce 3 (λ a z d. (# 1 · (a ⊗ (# 1 ⊗ # 1) ≐ z ⊗ (# 1 ⊗ d))) ∷ (d · (z ≐ # 0)) ∷ [] ⊨ a ≐ # 0) tt
+    (coefficient f p) (coefficient (cubics zeros k) p) (pos (f .divisor .number)) (e .coefficients p .crossed) (no-coefficient p k)
+
+zeros-pass : T (everyPiece (passes all all zeros))
+unfolding zeros next
+zeros-pass = tt
+
 counterexample : {diagonals edges : Piece → Type 0} {C : Cell} → Witness diagonals edges C → Counterexample diagonals edges C
-unfolding zeros SameCorners NothingAtCorners Equal Zero next
-counterexample {C = C} w = record {
+unfolding SameCorners NothingAtCorners Equal Zero
+counterexample {C = C} w = let m = meets all all zeros C zeros-pass in record {
   S = w .D;
-  S′ = λ k. whole-cubic (zeros k);
+  S′ = cubics zeros;
   meets = w .meets;
-  meets′ = record {
-    smooth = λ k t. smooth-at C (λ l. whole-cubic (zeros l)) k (joined C (quoted zeros) unit [] k (every-piece (joins (quoted zeros)) tt k));
-    linear = λ k t. no-square [] (quoted zeros) unit k (every-piece (flat (quoted zeros)) tt k);
-  };
-  corners = λ k c t. ≋-trans {j = jet C (w .D k) (at c)} {k = none} {l = jet C (whole-cubic (zeros k)) (at c)} (w .corners k c t)
-      (≋-sym (nothing zeros C (λ l v. every-corner (λ u. bare zeros l u) (every-piece (λ m. everyCorner (λ u. bare zeros m u)) tt l) v) k c t));
-  unequal = λ e. w .not-zero (λ p. zero-of-nothing (w .D (w .where-not)) p (e (w .where-not)));
+  meets′ = record { smooth = λ k t. m .smooth k tt; linear = λ k t. m .linear k tt };
+  corners = λ k c t. ≋-trans {j = jet C (w .D k) (at c)} {k = none} {l = jet C (cubics zeros k) (at c)} (w .corners k c t)
+      (≋-sym (corners all all zeros C zeros-pass k c t));
+  unequal = λ e. w .not-zero (λ p. zero-of-nothing (w .D (w .where-not)) (w .where-not) p (e (w .where-not)));
 }
 
 pub needed : Needed

@@ -4,7 +4,7 @@ use mathlib.Core.List.{List, [], _∷_}
 use Prim.Native.Nat.{_*_}
 use lib.IntN.{ℤ, pos, _-ℤ_, _*ℤ_}
 use Rattle.sibson.specs.Fraction.{_≈_, _-ℚ_, _*⁺_}
-use Rattle.sibson.specs.Cubic.{Cell, Point, Cubic, Power, one, r¹, s¹, r², rs, s², r³, r²s, rs², s³, coefficient, _≅_, value, byR, byS, Jet, jet, _≋_}
+use Rattle.sibson.specs.Cubic.{Cell, Point, Cubic, Power, one, r¹, s¹, r², rs, s², r³, r²s, rs², s³, coefficient, cubicOf, _≅_, value, byR, byS, Jet, jet, _≋_}
 use Rattle.sibson.specs.Piece.{Piece, top, right, bottom, left}
 use Rattle.sibson.specs.Conditions.{squareTerm, squareInR, squareInS}
 use Rattle.integers.proofs.Polynomial.{Expr, #_, _⊕_, _⊗_, _⊝_, ⊖_}
@@ -12,24 +12,13 @@ use Rattle.integers.proofs.Solve.{_≐_}
 use Rattle.integers.proofs.Deduce.{Used, _·_, _⊨_, deduce, certified-sound}
 use Rattle.sibson.proofs.Fractions.{≈-sym, ≈-trans, ≈--, ≈-÷-minus}
 use Rattle.sibson.proofs.Jets.{≋-sym, ≋-trans, _⊟_, none, ≋-of-minus}
-use Rattle.sibson.proofs.Quote.{Cubicₑ, nil, squareₑ, cubicₑ, fractionₑ, cubic, fraction}
-use Rattle.sibson.proofs.Evaluate.{numerator, cubes, common, value-is, numeratorsAt, numeratorsₑ, same-three}
-use Rattle.sibson.proofs.Coefficients.{Zero, zero-jet}
+use Rattle.sibson.proofs.Quote.{Cubicₑ, coefficientₑ, cubicOfₑ, nil, squareₑ, cubicₑ, fractionₑ, cubic, fraction, same-three}
+use Rattle.sibson.proofs.Evaluate.{numerator, cubes, common, value-is, numeratorsAt, numeratorsₑ}
+use Rattle.sibson.proofs.Coefficients.{coefficient-of, Zero, zero-jet}
 
 unfoldable pub difference : Cubic → Cubic → Cubic
-difference f g = let d = pos (f .divisor .number) in let d′ = pos (g .divisor .number) in record {
-  c00 = f .c00 *ℤ d′ -ℤ g .c00 *ℤ d;
-  c10 = f .c10 *ℤ d′ -ℤ g .c10 *ℤ d;
-  c01 = f .c01 *ℤ d′ -ℤ g .c01 *ℤ d;
-  c20 = f .c20 *ℤ d′ -ℤ g .c20 *ℤ d;
-  c11 = f .c11 *ℤ d′ -ℤ g .c11 *ℤ d;
-  c02 = f .c02 *ℤ d′ -ℤ g .c02 *ℤ d;
-  c30 = f .c30 *ℤ d′ -ℤ g .c30 *ℤ d;
-  c21 = f .c21 *ℤ d′ -ℤ g .c21 *ℤ d;
-  c12 = f .c12 *ℤ d′ -ℤ g .c12 *ℤ d;
-  c03 = f .c03 *ℤ d′ -ℤ g .c03 *ℤ d;
-  divisor = f .divisor *⁺ g .divisor;
-}
+difference f g =
+    cubicOf (λ p. coefficient f p *ℤ pos (g .divisor .number) -ℤ coefficient g p *ℤ pos (f .divisor .number)) (f .divisor *⁺ g .divisor)
 
 -- ---- quoted: two cubics, then a point
 
@@ -40,23 +29,11 @@ abbrev gₑ : Cubicₑ
 gₑ = cubicₑ 11
 
 abbrev differenceₑ : Cubicₑ
-differenceₑ = let d = fₑ .divisor in let d′ = gₑ .divisor in record {
-  c00 = fₑ .c00 ⊗ d′ ⊝ gₑ .c00 ⊗ d;
-  c10 = fₑ .c10 ⊗ d′ ⊝ gₑ .c10 ⊗ d;
-  c01 = fₑ .c01 ⊗ d′ ⊝ gₑ .c01 ⊗ d;
-  c20 = fₑ .c20 ⊗ d′ ⊝ gₑ .c20 ⊗ d;
-  c11 = fₑ .c11 ⊗ d′ ⊝ gₑ .c11 ⊗ d;
-  c02 = fₑ .c02 ⊗ d′ ⊝ gₑ .c02 ⊗ d;
-  c30 = fₑ .c30 ⊗ d′ ⊝ gₑ .c30 ⊗ d;
-  c21 = fₑ .c21 ⊗ d′ ⊝ gₑ .c21 ⊗ d;
-  c12 = fₑ .c12 ⊗ d′ ⊝ gₑ .c12 ⊗ d;
-  c03 = fₑ .c03 ⊗ d′ ⊝ gₑ .c03 ⊗ d;
-  divisor = d ⊗ d′;
-}
+differenceₑ = cubicOfₑ (λ p. coefficientₑ fₑ p ⊗ gₑ .divisor ⊝ coefficientₑ gₑ p ⊗ fₑ .divisor) (fₑ .divisor ⊗ gₑ .divisor)
 
 -- ---- heights and slopes
 
--- a value over both divisors, whose numerator is the difference crosswise
+-- a value over both divisors, whose numerator is the difference less
 minus : (h f g : Cubic) (P : Point) → h .divisor .number ≡ f .divisor .number * g .divisor .number →
     numerator h P ≡ numerator f P *ℤ pos (g .divisor .number) -ℤ numerator g P *ℤ pos (f .divisor .number) → value h P ≈ value f P -ℚ value g P
 minus h f g P d e = ≈-trans {y = common h P} (value-is h P)
@@ -69,24 +46,24 @@ minus h f g P d e = ≈-trans {y = common h P} (value-is h P)
         (numerator h P) (numerator f P) (numerator g P) (pos (f .divisor .number)) (pos (g .divisor .number)) (pos (h .divisor .number))
         (pos (cubes P .number)) e (ap pos d)
 
-abbrev crosswise : Jet ℤ → Jet ℤ → Cubic → Cubic → Jet ℤ
-crosswise a b f g = let d = pos (f .divisor .number) in let d′ = pos (g .divisor .number) in record {
+abbrev less : Jet ℤ → Jet ℤ → Cubic → Cubic → Jet ℤ
+less a b f g = let d = pos (f .divisor .number) in let d′ = pos (g .divisor .number) in record {
   height = a .height *ℤ d′ -ℤ b .height *ℤ d;
   xSlope = a .xSlope *ℤ d′ -ℤ b .xSlope *ℤ d;
   ySlope = a .ySlope *ℤ d′ -ℤ b .ySlope *ℤ d;
 }
 
-abbrev crosswiseₑ : Jet Expr → Jet Expr → Jet Expr
-crosswiseₑ a b = let d = fₑ .divisor in let d′ = gₑ .divisor in record {
+abbrev lessₑ : Jet Expr → Jet Expr → Jet Expr
+lessₑ a b = let d = fₑ .divisor in let d′ = gₑ .divisor in record {
   height = a .height ⊗ d′ ⊝ b .height ⊗ d;
   xSlope = a .xSlope ⊗ d′ ⊝ b .xSlope ⊗ d;
   ySlope = a .ySlope ⊗ d′ ⊝ b .ySlope ⊗ d;
 }
 
-numerators-difference : (f g : Cubic) (P : Point) → numeratorsAt (difference f g) P ≡ crosswise (numeratorsAt f P) (numeratorsAt g P) f g
+numerators-difference : (f g : Cubic) (P : Point) → numeratorsAt (difference f g) P ≡ less (numeratorsAt f P) (numeratorsAt g P) f g
 unfolding numeratorsAt numerator byR byS difference
 numerators-difference f g P = let r = fractionₑ 22 in let s = fractionₑ 24 in
-    same-three (numeratorsₑ differenceₑ r s) (crosswiseₑ (numeratorsₑ fₑ r s) (numeratorsₑ gₑ r s)) tt (cubic f (cubic g (fraction (P .r) (fraction (P .s) []))))
+    same-three (numeratorsₑ differenceₑ r s) (lessₑ (numeratorsₑ fₑ r s) (numeratorsₑ gₑ r s)) tt (cubic f (cubic g (fraction (P .r) (fraction (P .s) []))))
 
 pub jet-difference : (C : Cell) (f g : Cubic) (P : Point) → jet C (difference f g) P ≋ jet C f P ⊟ jet C g P
 unfolding jet numeratorsAt byR byS difference
@@ -113,16 +90,8 @@ square-difference left f g a b = certified-sound (squares left) (nil (squareₑ 
 coefficient-difference : (f g : Cubic) (p : Power) →
     coefficient (difference f g) p ≡ coefficient f p *ℤ pos (g .divisor .number) -ℤ coefficient g p *ℤ pos (f .divisor .number)
 unfolding difference
-coefficient-difference f g one = refl
-coefficient-difference f g r¹ = refl
-coefficient-difference f g s¹ = refl
-coefficient-difference f g r² = refl
-coefficient-difference f g rs = refl
-coefficient-difference f g s² = refl
-coefficient-difference f g r³ = refl
-coefficient-difference f g r²s = refl
-coefficient-difference f g rs² = refl
-coefficient-difference f g s³ = refl
+coefficient-difference f g p =
+    coefficient-of (λ q. coefficient f q *ℤ pos (g .divisor .number) -ℤ coefficient g q *ℤ pos (f .divisor .number)) (f .divisor *⁺ g .divisor) p
 
 pub equal-of-zero : (f g : Cubic) → Zero (difference f g) → f ≅ g
 unfolding Zero

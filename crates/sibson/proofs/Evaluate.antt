@@ -124,19 +124,3 @@ numeratorsₑ f r s = record { height = numeratorₑ f r s; xSlope = numerator�
 
 abbrev pub flatₑ : Jet Expr
 flatₑ = record { height = # 0; xSlope = # 0; ySlope = # 0 }
-
-abbrev pub three : List ℤ → Jet Expr → Jet ℤ
-three ρ a = record { height = eval ρ (a .height); xSlope = eval ρ (a .xSlope); ySlope = eval ρ (a .ySlope) }
-
-abbrev pub sameThree : Jet Expr → Jet Expr → Bool
-sameThree a b = same (a .height) (b .height) && (same (a .xSlope) (b .xSlope) && same (a .ySlope) (b .ySlope))
-
-pub same-three : (a b : Jet Expr) → T (sameThree a b) → (ρ : List ℤ) → three ρ a ≡ three ρ b
-same-three a b t ρ =
-    let (h, u) = both (same (a .height) (b .height)) (same (a .xSlope) (b .xSlope) && same (a .ySlope) (b .ySlope)) t in
-    let (x, y) = both (same (a .xSlope) (b .xSlope)) (same (a .ySlope) (b .ySlope)) u in
-    λ i. record {
-      height = same-sound (a .height) (b .height) h ρ i;
-      xSlope = same-sound (a .xSlope) (b .xSlope) x ρ i;
-      ySlope = same-sound (a .ySlope) (b .ySlope) y ρ i;
-    }

@@ -14,9 +14,8 @@ use Rattle.integers.proofs.Solve.{solve, _≐_}
 use Rattle.sibson.proofs.Fractions.{≈-refl}
 use Rattle.sibson.proofs.Finite.{every-piece, everyCorner, every-corner, implies, implied}
 use Rattle.sibson.proofs.Jets.{≋-trans}
-use Rattle.sibson.proofs.Quote.{evaluated}
+use Rattle.sibson.proofs.Quote.{evaluated, three}
 use Rattle.sibson.proofs.QuoteElement.{numbersₑ, elementₑ, sibson-is}
-use Rattle.sibson.proofs.Evaluate.{three}
 use Rattle.sibson.proofs.Places.{given, onLine, joins, joined, smooth-at, flat, no-square, has, has-numbers}
 
 abbrev two : Positive
@@ -28,7 +27,7 @@ is C s n k = sibson-is (pos (C .W .number)) (pos (C .H .number)) (s .numerator) 
 -- ---- the conditions
 
 lines : (k : Piece) → T (joins elementₑ k)
-unfolding next inOrder column weights swap exchanged
+unfolding next inOrder weights swap exchanged
 lines = every-piece (joins elementₑ) tt
 
 smooth : (C : Cell) (n : CornerNumbers) → Smooth C (sibson n)
@@ -37,7 +36,7 @@ smooth C n k P h = smooth-at C (sibson n) k (λ s. subst₂ (λ f g. jet C f (on
     (sym (is C s n k)) (sym (is C s n (next k))) (joined C elementₑ two (inOrder n) k (lines k) s)) P h
 
 edges : (k : Piece) → T (flat elementₑ k)
-unfolding inOrder column weights swap exchanged
+unfolding inOrder weights swap exchanged
 edges = every-piece (flat elementₑ) tt
 
 linear : (C : Cell) (n : CornerNumbers) (k : Piece) → squareTerm k (sibson n k) ≡ pos 0
@@ -53,7 +52,7 @@ abbrev reads : Piece → Corner → Bool
 reads k c = implies (triangle k (at c)) (has (elementₑ k) two (numbersₑ c) c)
 
 corners : (k : Piece) (c : Corner) → T (reads k c)
-unfolding inOrder column weights swap exchanged
+unfolding inOrder weights swap exchanged
 corners k c = every-corner (reads k) (every-piece (λ l. everyCorner (reads l)) tt k) c
 
 number-is : (C : Cell) (n : CornerNumbers) (c : Corner) → three (given C (whole (pos 0)) (inOrder n)) (numbersₑ c) ≡ n c

@@ -12,26 +12,31 @@ pub and : (a b : Bool) → T a → T b → T (a && b)
 and true b s t = t
 and false b s t = absurd s
 
-four : (a b c d : Bool) → T (a && (b && (c && d))) → T a × T b × T c × T d
-four a b c d t = let (x, u) = both a (b && (c && d)) t in let (y, v) = both b (c && d) u in let (z, w) = both c d v in (x, y, z, w)
+-- a test of four things
+abbrev every : {A : Type 0} → A → A → A → A → (A → Bool) → Bool
+every a b c d p = p a && (p b && (p c && p d))
+
+each : {A : Type 0} (a b c d : A) (p : A → Bool) → T (every a b c d p) → T (p a) × T (p b) × T (p c) × T (p d)
+each a b c d p t =
+    let (x, u) = both (p a) (p b && (p c && p d)) t in let (y, v) = both (p b) (p c && p d) u in let (z, w) = both (p c) (p d) v in (x, y, z, w)
 
 abbrev pub everyPiece : (Piece → Bool) → Bool
-everyPiece p = p top && (p right && (p bottom && p left))
+everyPiece p = every top right bottom left p
 
 pub every-piece : (p : Piece → Bool) → T (everyPiece p) → (k : Piece) → T (p k)
-every-piece p t top = four (p top) (p right) (p bottom) (p left) t .0
-every-piece p t right = four (p top) (p right) (p bottom) (p left) t .1
-every-piece p t bottom = four (p top) (p right) (p bottom) (p left) t .2
-every-piece p t left = four (p top) (p right) (p bottom) (p left) t .3
+every-piece p t top = each top right bottom left p t .0
+every-piece p t right = each top right bottom left p t .1
+every-piece p t bottom = each top right bottom left p t .2
+every-piece p t left = each top right bottom left p t .3
 
 abbrev pub everyCorner : (Corner → Bool) → Bool
-everyCorner p = p leftTop && (p rightTop && (p leftBottom && p rightBottom))
+everyCorner p = every leftTop rightTop leftBottom rightBottom p
 
 pub every-corner : (p : Corner → Bool) → T (everyCorner p) → (c : Corner) → T (p c)
-every-corner p t leftTop = four (p leftTop) (p rightTop) (p leftBottom) (p rightBottom) t .0
-every-corner p t rightTop = four (p leftTop) (p rightTop) (p leftBottom) (p rightBottom) t .1
-every-corner p t leftBottom = four (p leftTop) (p rightTop) (p leftBottom) (p rightBottom) t .2
-every-corner p t rightBottom = four (p leftTop) (p rightTop) (p leftBottom) (p rightBottom) t .3
+every-corner p t leftTop = each leftTop rightTop leftBottom rightBottom p t .0
+every-corner p t rightTop = each leftTop rightTop leftBottom rightBottom p t .1
+every-corner p t leftBottom = each leftTop rightTop leftBottom rightBottom p t .2
+every-corner p t rightBottom = each leftTop rightTop leftBottom rightBottom p t .3
 
 -- ---- if one test then another
 

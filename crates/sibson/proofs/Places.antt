@@ -14,8 +14,8 @@ use Rattle.integers.proofs.Polynomial.{Expr, var, #_, _⊗_}
 use Rattle.integers.proofs.Solve.{same, same-sound}
 use Rattle.sibson.proofs.Fractions.{≈-refl}
 use Rattle.sibson.proofs.Jets.{≋-sym, ≋-trans, _≈ₚ_, jet-at}
-use Rattle.sibson.proofs.Quote.{Quotient, wholeₑ, _-ₑ_, Cubicₑ, squareₑ, evaluated, fractionₑ, fraction}
-use Rattle.sibson.proofs.Evaluate.{numerator, cubes, numeratorsAt, by-numerators, by-numbers, numeratorsₑ, three, sameThree, same-three}
+use Rattle.sibson.proofs.Quote.{Quotient, wholeₑ, _-ₑ_, Cubicₑ, squareₑ, evaluated, fractionₑ, fraction, three, sameThree, same-three}
+use Rattle.sibson.proofs.Evaluate.{numerator, cubes, numeratorsAt, by-numerators, by-numbers, numeratorsₑ}
 
 -- ---- variables: 0 is W, 1 is H, 2 / 3 is a fraction t, others follow
 

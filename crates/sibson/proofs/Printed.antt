@@ -32,7 +32,7 @@ printedₑ bottom = numeratorₑ (halvedₑ (table bottom) numbersₑ) (wholeₑ
 printedₑ left = numeratorₑ (halvedₑ (table left) numbersₑ) rₑ sₑ
 
 same-numerators : (k : Piece) (n : CornerNumbers) (P : Point) → numerator (evaluated (given P n) (elementₑ k) (positive 2 tt)) P ≡ numerator (halved (table k) n) (source k P)
-unfolding numerator inOrder column weights weighed halved swap exchanged formula row table source
+unfolding numerator inOrder weights weighed halved swap exchanged formula row table source
 same-numerators top n P = same-sound (numeratorₑ (elementₑ top) rₑ sₑ) (printedₑ top) tt (given P n)
 same-numerators right n P = same-sound (numeratorₑ (elementₑ right) rₑ sₑ) (printedₑ right) tt (given P n)
 same-numerators bottom n P = same-sound (numeratorₑ (elementₑ bottom) rₑ sₑ) (printedₑ bottom) tt (given P n)
@@ -67,5 +67,5 @@ unfolding halved
 pieces k n P = by-numerator (sibson n k) (halved (table k) n) P (source k P) (halves k n) (source-cubes k P) (numerators k n P)
 
 pub sources : Sources
-unfolding weights formula row table column
+unfolding weights formula row table
 sources = record { weightsAre = refl; pieces = pieces }

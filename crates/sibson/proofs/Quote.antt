@@ -1,5 +1,5 @@
 -- Fractions and cubics as expressions, so that what is claimed of them can be decided as an identity over ℤ. Assumes nothing.
-use mathlib.Core.Path.{_≡_}
+use mathlib.Core.Path.{_≡_, ap}
 use mathlib.Core.Bool.{Bool, _&&_}
 use mathlib.Core.List.{List, _∷_}
 use lib.Dec.{T}
@@ -9,8 +9,9 @@ use Rattle.integers.proofs.Polynomial.{Expr, var, #_, _⊕_, _⊗_, ⊖_, eval}
 use Rattle.integers.proofs.Solve.{Claim, _≐_, Holds, same, same-sound}
 use Rattle.integers.proofs.Deduce.{both}
 use Rattle.sibson.specs.Fraction.{Positive, ℚ}
-use Rattle.sibson.specs.Cubic.{Point, Cubic, Jet, _≋_}
+use Rattle.sibson.specs.Cubic.{Point, Cubic, Power, one, r¹, s¹, r², rs, s², r³, r²s, rs², s³, cubicOf, Jet, _≋_}
 use Rattle.sibson.specs.Piece.{Piece, top, right, bottom, left}
+use Rattle.sibson.specs.Element.{column, exchange}
 
 -- ---- fractions
 
@@ -65,6 +66,21 @@ pub record Cubicₑ : Type 0 where
   pub c03 : Expr
   pub divisor : Expr
 
+abbrev pub coefficientₑ : Cubicₑ → Power → Expr
+coefficientₑ f one = f .c00
+coefficientₑ f r¹ = f .c10
+coefficientₑ f s¹ = f .c01
+coefficientₑ f r² = f .c20
+coefficientₑ f rs = f .c11
+coefficientₑ f s² = f .c02
+coefficientₑ f r³ = f .c30
+coefficientₑ f r²s = f .c21
+coefficientₑ f rs² = f .c12
+coefficientₑ f s³ = f .c03
+
+abbrev pub cubicOfₑ : (Power → Expr) → Expr → Cubicₑ
+cubicOfₑ c d = record { c00 = c one; c10 = c r¹; c01 = c s¹; c20 = c r²; c11 = c rs; c02 = c s²; c30 = c r³; c21 = c r²s; c12 = c rs²; c03 = c s³; divisor = d }
+
 abbrev pub valueₑ : Cubicₑ → Quotient → Quotient → Quotient
 valueₑ f r s =
     (wholeₑ (f .c00) +ₑ f .c10 ·ₑ r +ₑ f .c01 ·ₑ s
@@ -103,19 +119,7 @@ bySₑ f = record {
 }
 
 abbrev pub transposedₑ : Cubicₑ → Cubicₑ
-transposedₑ f = record {
-  c00 = f .c00;
-  c10 = f .c01;
-  c01 = f .c10;
-  c20 = f .c02;
-  c11 = f .c11;
-  c02 = f .c20;
-  c30 = f .c03;
-  c21 = f .c12;
-  c12 = f .c21;
-  c03 = f .c30;
-  divisor = f .divisor;
-}
+transposedₑ f = cubicOfₑ (λ p. coefficientₑ f (exchange p)) (f .divisor)
 
 abbrev pub flippedₑ : Cubicₑ → Cubicₑ
 flippedₑ f = record {
@@ -134,19 +138,7 @@ flippedₑ f = record {
 
 -- a quoted cubic at given numbers, over a divisor
 abbrev pub evaluated : List ℤ → Cubicₑ → Positive → Cubic
-evaluated ρ f d = record {
-  c00 = eval ρ (f .c00);
-  c10 = eval ρ (f .c10);
-  c01 = eval ρ (f .c01);
-  c20 = eval ρ (f .c20);
-  c11 = eval ρ (f .c11);
-  c02 = eval ρ (f .c02);
-  c30 = eval ρ (f .c30);
-  c21 = eval ρ (f .c21);
-  c12 = eval ρ (f .c12);
-  c03 = eval ρ (f .c03);
-  divisor = d;
-}
+evaluated ρ f d = cubicOf (λ p. eval ρ (coefficientₑ f p)) d
 
 -- the square term along a piece's edge
 abbrev pub squareₑ : Piece → Cubicₑ → Expr
@@ -160,47 +152,55 @@ squareₑ left f = byRₑ f .c02 ⊕ byRₑ f .c12 ⊗ # 0
 abbrev pub Jetₑ : Type 0
 Jetₑ = Jet Quotient
 
--- the three equations between two jets, and their decision
-abbrev pub Crossed : Jetₑ → Jetₑ → List ℤ → Type 0
-Crossed j k ρ = Holds (j .height ≈ₑ k .height) ρ × Holds (j .xSlope ≈ₑ k .xSlope) ρ × Holds (j .ySlope ≈ₑ k .ySlope) ρ
-
+-- equal fractions, decided
 abbrev pub alike : Quotient → Quotient → Bool
 alike x y = same (x .num ⊗ y .den) (y .num ⊗ x .den)
 
 pub equal : (x y : Quotient) → T (alike x y) → (ρ : List ℤ) → Holds (x ≈ₑ y) ρ
 equal x y t ρ = same-sound (x .num ⊗ y .den) (y .num ⊗ x .den) t ρ
 
-abbrev pub sameJet : Jetₑ → Jetₑ → Bool
-sameJet j k = alike (j .height) (k .height) && (alike (j .xSlope) (k .xSlope) && alike (j .ySlope) (k .ySlope))
+-- three expressions at given numbers, and whether three are the same
+abbrev pub three : List ℤ → Jet Expr → Jet ℤ
+three ρ a = record { height = eval ρ (a .height); xSlope = eval ρ (a .xSlope); ySlope = eval ρ (a .ySlope) }
 
-pub decided : (j k : Jetₑ) → T (sameJet j k) → (ρ : List ℤ) → Crossed j k ρ
-decided j k t ρ =
-    let (h, u) = both (alike (j .height) (k .height)) (alike (j .xSlope) (k .xSlope) && alike (j .ySlope) (k .ySlope)) t in
-    let (x, y) = both (alike (j .xSlope) (k .xSlope)) (alike (j .ySlope) (k .ySlope)) u in
-    (equal (j .height) (k .height) h ρ, equal (j .xSlope) (k .xSlope) x ρ, equal (j .ySlope) (k .ySlope) y ρ)
+abbrev pub sameThree : Jet Expr → Jet Expr → Bool
+sameThree a b = same (a .height) (b .height) && (same (a .xSlope) (b .xSlope) && same (a .ySlope) (b .ySlope))
 
-pub jets : {j k : Jet ℚ} →
-    ((j .height .numerator *ℤ pos (k .height .denominator .number) ≡ k .height .numerator *ℤ pos (j .height .denominator .number))
-    × (j .xSlope .numerator *ℤ pos (k .xSlope .denominator .number) ≡ k .xSlope .numerator *ℤ pos (j .xSlope .denominator .number))
-    × (j .ySlope .numerator *ℤ pos (k .ySlope .denominator .number) ≡ k .ySlope .numerator *ℤ pos (j .ySlope .denominator .number))) → j ≋ k
-jets e = record { heights = record { crossed = e .0 }; xSlopes = record { crossed = e .1 }; ySlopes = record { crossed = e .2 } }
+pub same-three : (a b : Jet Expr) → T (sameThree a b) → (ρ : List ℤ) → three ρ a ≡ three ρ b
+same-three a b t ρ =
+    let (h, u) = both (same (a .height) (b .height)) (same (a .xSlope) (b .xSlope) && same (a .ySlope) (b .ySlope)) t in
+    let (x, y) = both (same (a .xSlope) (b .xSlope)) (same (a .ySlope) (b .ySlope)) u in
+    λ i. record {
+      height = same-sound (a .height) (b .height) h ρ i;
+      xSlope = same-sound (a .xSlope) (b .xSlope) x ρ i;
+      ySlope = same-sound (a .ySlope) (b .ySlope) y ρ i;
+    }
+
+-- equal jets are three equations, crosswise
+abbrev across : Jetₑ → Jetₑ → Jet Expr
+across j k = record { height = j .height .num ⊗ k .height .den; xSlope = j .xSlope .num ⊗ k .xSlope .den; ySlope = j .ySlope .num ⊗ k .ySlope .den }
+
+abbrev pub crosswise : Jet ℚ → Jet ℚ → Jet ℤ
+crosswise j k = record {
+  height = j .height .numerator *ℤ pos (k .height .denominator .number);
+  xSlope = j .xSlope .numerator *ℤ pos (k .xSlope .denominator .number);
+  ySlope = j .ySlope .numerator *ℤ pos (k .ySlope .denominator .number);
+}
+
+pub decided : (j k : Jetₑ) → T (sameThree (across j k) (across k j)) → (ρ : List ℤ) → three ρ (across j k) ≡ three ρ (across k j)
+decided j k = same-three (across j k) (across k j)
+
+pub jets : {j k : Jet ℚ} → crosswise j k ≡ crosswise k j → j ≋ k
+jets e = record {
+  heights = record { crossed = ap (λ x. x .height) e };
+  xSlopes = record { crossed = ap (λ x. x .xSlope) e };
+  ySlopes = record { crossed = ap (λ x. x .ySlope) e };
+}
 
 -- ---- any cubic and any point: from variable i on the coefficients and the divisor, or the coordinates
 
 abbrev pub cubicₑ : ℕ → Cubicₑ
-cubicₑ i = record {
-  c00 = var i;
-  c10 = var (i + 1);
-  c01 = var (i + 2);
-  c20 = var (i + 3);
-  c11 = var (i + 4);
-  c02 = var (i + 5);
-  c30 = var (i + 6);
-  c21 = var (i + 7);
-  c12 = var (i + 8);
-  c03 = var (i + 9);
-  divisor = var (i + 10);
-}
+cubicₑ i = cubicOfₑ (λ p. var (i + column p)) (var (i + 10))
 
 abbrev pub fractionₑ : ℕ → Quotient
 fractionₑ i = var i /ₑ var (i + 1)

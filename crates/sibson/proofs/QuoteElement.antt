@@ -8,7 +8,7 @@ use Rattle.sibson.specs.Cubic.{Power, one, r¹, s¹, r², rs, s², r³, 
 use Rattle.sibson.specs.Piece.{Piece, top, right, bottom, left, Corner, leftTop, rightTop, leftBottom, rightBottom}
 use Rattle.sibson.specs.Element.{CornerNumbers, inOrder, column, weights, weighed, halved, transposed, flipped, mirrored, swap, negateX, negateY, exchanged, topDown, leftRight, onTop, onLeft, sibson}
 use Rattle.integers.proofs.Polynomial.{Expr, var, con, #_, _⊕_, _⊗_, ⊖_}
-use Rattle.sibson.proofs.Quote.{Cubicₑ, transposedₑ, flippedₑ, evaluated}
+use Rattle.sibson.proofs.Quote.{Cubicₑ, cubicOfₑ, transposedₑ, flippedₑ, evaluated}
 
 abbrev pub Cornersₑ : Type 0
 Cornersₑ = Corner → Jet Expr
@@ -19,19 +19,7 @@ weighedₑ (row ∷ rows) [] p = # 0
 weighedₑ (row ∷ rows) (n ∷ ns) p = con (getD row (column p) (pos 0)) ⊗ n ⊕ weighedₑ rows ns p
 
 abbrev pub halvedₑ : List (List ℤ) → Cornersₑ → Cubicₑ
-halvedₑ table n = record {
-  c00 = weighedₑ table (inOrder n) one;
-  c10 = weighedₑ table (inOrder n) r¹;
-  c01 = weighedₑ table (inOrder n) s¹;
-  c20 = weighedₑ table (inOrder n) r²;
-  c11 = weighedₑ table (inOrder n) rs;
-  c02 = weighedₑ table (inOrder n) s²;
-  c30 = weighedₑ table (inOrder n) r³;
-  c21 = weighedₑ table (inOrder n) r²s;
-  c12 = weighedₑ table (inOrder n) rs²;
-  c03 = weighedₑ table (inOrder n) s³;
-  divisor = # 2;
-}
+halvedₑ table n = cubicOfₑ (λ p. weighedₑ table (inOrder n) p) (# 2)
 
 abbrev negateXₑ : Jet Expr → Jet Expr
 negateXₑ c = record { height = c .height; xSlope = ⊖ (c .xSlope); ySlope = c .ySlope }
@@ -76,7 +64,7 @@ elementₑ k = sibsonₑ numbersₑ k
 
 -- the quotation is right, whatever the first four variables
 pub sibson-is : (x y z w : ℤ) (n : CornerNumbers) (k : Piece) → sibson n k ≡ evaluated (x ∷ y ∷ z ∷ w ∷ inOrder n) (elementₑ k) (positive 2 tt)
-unfolding inOrder column weights weighed halved transposed flipped mirrored swap negateX negateY exchanged topDown leftRight onTop onLeft sibson
+unfolding inOrder weights weighed halved transposed flipped mirrored swap negateX negateY exchanged topDown leftRight onTop onLeft sibson
 sibson-is x y z w n top = refl
 sibson-is x y z w n right = refl
 sibson-is x y z w n bottom = refl

@@ -68,9 +68,15 @@ edgeₑ right = commonJetₑ (sibsonₑ nodesₑ right) (wholeₑ (# 1)) tₑ
 edgeₑ bottom = commonJetₑ (sibsonₑ nodesₑ bottom) tₑ (wholeₑ (# 1))
 edgeₑ left = commonJetₑ (sibsonₑ nodesₑ left) (wholeₑ (# 0)) tₑ
 
+abbrev onEdgeₑ : Piece → Jetₑ
+onEdgeₑ top = alongₑ Wₑ (numbersₑ leftTop) (numbersₑ rightTop) tₑ
+onEdgeₑ right = downₑ (numbersₑ rightTop) (numbersₑ rightBottom)
+onEdgeₑ bottom = alongₑ Wₑ (numbersₑ leftBottom) (numbersₑ rightBottom) tₑ
+onEdgeₑ left = downₑ (numbersₑ leftTop) (numbersₑ leftBottom)
+
 -- the set for nodes, by its quotation
 nodes-are : (C : Cell) (m : Nodes) (k : Piece) (t : ℚ) → element C m k ≡ evaluated (given C t (inOrder m)) (sibsonₑ nodesₑ k) (positive 2 tt)
-unfolding inOrder column weights weighed halved transposed flipped mirrored swap negateX negateY exchanged topDown leftRight onTop onLeft sibson element cornerNumbers
+unfolding inOrder weights weighed halved transposed flipped mirrored swap negateX negateY exchanged topDown leftRight onTop onLeft sibson element cornerNumbers
 nodes-are C m top t = refl
 nodes-are C m right t = refl
 nodes-are C m bottom t = refl
@@ -78,15 +84,11 @@ nodes-are C m left t = refl
 
 on-edge : (C : Cell) (m : Nodes) (k : Piece) (t : ℚ) →
     jet C (evaluated (given C t (inOrder m)) (sibsonₑ nodesₑ k) (positive 2 tt)) (edge k t) ≋ onEdge k (lengthOf C k) (m (first k)) (m (last k)) t
-unfolding numerator cubes byR byS inOrder column weights swap exchanged onEdge along
-on-edge C m top t = by-common C _ (edge top t)
-    (jets (decided (edgeₑ top) (alongₑ Wₑ (numbersₑ leftTop) (numbersₑ rightTop) tₑ) tt (given C t (inOrder m))))
-on-edge C m right t = by-common C _ (edge right t)
-    (jets (decided (edgeₑ right) (downₑ (numbersₑ rightTop) (numbersₑ rightBottom)) tt (given C t (inOrder m))))
-on-edge C m bottom t = by-common C _ (edge bottom t)
-    (jets (decided (edgeₑ bottom) (alongₑ Wₑ (numbersₑ leftBottom) (numbersₑ rightBottom) tₑ) tt (given C t (inOrder m))))
-on-edge C m left t = by-common C _ (edge left t)
-    (jets (decided (edgeₑ left) (downₑ (numbersₑ leftTop) (numbersₑ leftBottom)) tt (given C t (inOrder m))))
+unfolding numerator cubes byR byS inOrder weights swap exchanged onEdge along
+on-edge C m top t = by-common C _ (edge top t) (jets (decided (edgeₑ top) (onEdgeₑ top) tt (given C t (inOrder m))))
+on-edge C m right t = by-common C _ (edge right t) (jets (decided (edgeₑ right) (onEdgeₑ right) tt (given C t (inOrder m))))
+on-edge C m bottom t = by-common C _ (edge bottom t) (jets (decided (edgeₑ bottom) (onEdgeₑ bottom) tt (given C t (inOrder m))))
+on-edge C m left t = by-common C _ (edge left t) (jets (decided (edgeₑ left) (onEdgeₑ left) tt (given C t (inOrder m))))
 
 on-edges : (C : Cell) (m : Nodes) (k : Piece) (t : ℚ) → jet C (element C m k) (edge k t) ≋ onEdge k (lengthOf C k) (m (first k)) (m (last k)) t
 on-edges C m k t = subst (λ f. jet C f (edge k t) ≋ onEdge k (lengthOf C k) (m (first k)) (m (last k)) t) (sym (nodes-are C m k t)) (on-edge C m k t)
@@ -96,10 +98,10 @@ on-edges C m k t = subst (λ f. jet C f (edge k t) ≋ onEdge k (lengthOf C k) (
 -- only the length's number counts
 again : (k : Piece) (L : Positive) (a b : Jet ℤ) (t : ℚ) (p : 0 < L .number) → onEdge k L a b t ≋ onEdge k (record { number = L .number; above = p }) a b t
 unfolding onEdge along swap
-again top L a b t p = jets (refl, refl, refl)
-again right L a b t p = jets (refl, refl, refl)
-again bottom L a b t p = jets (refl, refl, refl)
-again left L a b t p = jets (refl, refl, refl)
+again top L a b t p = jets refl
+again right L a b t p = jets refl
+again bottom L a b t p = jets refl
+again left L a b t p = jets refl
 
 same-length : (k : Piece) (L L′ : Positive) (a b : Jet ℤ) (t : ℚ) → L .number ≡ L′ .number → onEdge k L a b t ≋ onEdge k L′ a b t
 same-length k L L′ a b t e =

@@ -7,19 +7,19 @@ use Rattle.sibson.specs.Examples.{Reads, Examples}
 use Rattle.sibson.proofs.Quote.{jets}
 
 pub examples : Examples
-unfolding Reads wholes value byR byS jet bend cornerNumbers inOrder column weights weighed halved transposed flipped mirrored swap negateX negateY exchanged topDown leftRight onTop onLeft sibson element
+unfolding Reads wholes value byR byS jet bend cornerNumbers inOrder weights weighed halved transposed flipped mirrored swap negateX negateY exchanged topDown leftRight onTop onLeft sibson element
 examples = record {
   sheetA = (
-    jets (refl, refl, refl),
+    jets refl,
     (
-      jets (refl, refl, refl),
+      jets refl,
       (
-        jets (refl, refl, refl),
+        jets refl,
         (
-          jets (refl, refl, refl),
+          jets refl,
           (
-            jets (refl, refl, refl),
-            (jets (refl, refl, refl), (jets (refl, refl, refl), (jets (refl, refl, refl), (jets (refl, refl, refl), tt)))),
+            jets refl,
+            (jets refl, (jets refl, (jets refl, (jets refl, tt)))),
           ),
         ),
       ),
@@ -27,12 +27,12 @@ examples = record {
   );
   bendAtCentre = record { along-x = record { crossed = refl }; mixed = record { crossed = refl }; along-y = record { crossed = refl } };
   bendAtCorner = record { along-x = record { crossed = refl }; mixed = record { crossed = refl }; along-y = record { crossed = refl } };
-  slope = jets (refl, refl, refl);
+  slope = jets refl;
   slopeBend = record { crossed = refl };
   astray = record { crossed = refl };
   quarters = (record { crossed = refl }, (record { crossed = refl }, (record { crossed = refl }, (record { crossed = refl }, (record { crossed = refl }, tt)))));
-  planar = jets (refl, refl, refl);
-  oblongReads = (jets (refl, refl, refl), (jets (refl, refl, refl), (jets (refl, refl, refl), (jets (refl, refl, refl), tt))));
+  planar = jets refl;
+  oblongReads = (jets refl, (jets refl, (jets refl, (jets refl, tt))));
   oblongTop = record { along-x = record { crossed = refl }; mixed = record { crossed = refl }; along-y = record { crossed = refl } };
   oblongRight = record { along-x = record { crossed = refl }; mixed = record { crossed = refl }; along-y = record { crossed = refl } };
   oblongBottom = record { along-x = record { crossed = refl }; mixed = record { crossed = refl }; along-y = record { crossed = refl } };

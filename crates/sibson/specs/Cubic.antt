@@ -56,6 +56,22 @@ coefficient f r²s = f .c21
 coefficient f rs² = f .c12
 coefficient f s³ = f .c03
 
+-- the cubic with given coefficients
+abbrev pub cubicOf : (Power → ℤ) → Positive → Cubic
+cubicOf c d = record {
+  c00 = c one;
+  c10 = c r¹;
+  c01 = c s¹;
+  c20 = c r²;
+  c11 = c rs;
+  c02 = c s²;
+  c30 = c r³;
+  c21 = c r²s;
+  c12 = c rs²;
+  c03 = c s³;
+  divisor = d;
+}
+
 -- equal cubics: all ten coefficients are equal as fractions
 pub record _≅_ (f g : Cubic) : Type 0 where
   pub coefficients : (p : Power) → whole (coefficient f p) ÷ f .divisor ≈ whole (coefficient g p) ÷ g .divisor

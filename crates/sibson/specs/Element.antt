@@ -4,7 +4,7 @@ use Prim.Native.Nat.{ℕ}
 use lib.ListN.{getD}
 use lib.IntN.{ℤ, pos, negℤ, _+ℤ_, _*ℤ_}
 use Rattle.sibson.specs.Fraction.{positive}
-use Rattle.sibson.specs.Cubic.{Cell, Cubic, Power, one, r¹, s¹, r², rs, s², r³, r²s, rs², s³, Jet}
+use Rattle.sibson.specs.Cubic.{Cell, Cubic, Power, one, r¹, s¹, r², rs, s², r³, r²s, rs², s³, coefficient, cubicOf, Jet}
 use Rattle.sibson.specs.Piece.{top, right, bottom, left, FourCubics, Corner, leftTop, rightTop, leftBottom, rightBottom}
 
 -- a cell's nodes: of each, the height in grains and the slopes in grains per pixel
@@ -32,7 +32,7 @@ inOrder n =
 -- ---- piece 0
 
 -- a power's place in a row
-unfoldable pub column : Power → ℕ
+abbrev pub column : Power → ℕ
 column one = 0
 column r¹ = 1
 column s¹ = 2
@@ -77,37 +77,26 @@ weighed (row ∷ rows) (n ∷ ns) p = getD row (column p) (pos 0) *ℤ n +ℤ we
 
 -- the cubic that a table of doubled weights gives for twelve corner numbers
 unfoldable pub halved : List (List ℤ) → CornerNumbers → Cubic
-halved table n = record {
-  c00 = weighed table (inOrder n) one;
-  c10 = weighed table (inOrder n) r¹;
-  c01 = weighed table (inOrder n) s¹;
-  c20 = weighed table (inOrder n) r²;
-  c11 = weighed table (inOrder n) rs;
-  c02 = weighed table (inOrder n) s²;
-  c30 = weighed table (inOrder n) r³;
-  c21 = weighed table (inOrder n) r²s;
-  c12 = weighed table (inOrder n) rs²;
-  c03 = weighed table (inOrder n) s³;
-  divisor = positive 2 tt;
-}
+halved table n = cubicOf (λ p. weighed table (inOrder n) p) (positive 2 tt)
 
 -- ---- turnings: of a cubic, by substitution, and of corner numbers
 
+-- a power with r and s exchanged
+abbrev pub exchange : Power → Power
+exchange one = one
+exchange r¹ = s¹
+exchange s¹ = r¹
+exchange r² = s²
+exchange rs = rs
+exchange s² = r²
+exchange r³ = s³
+exchange r²s = rs²
+exchange rs² = r²s
+exchange s³ = r³
+
 -- the cubic at (s, r)
 unfoldable pub transposed : Cubic → Cubic
-transposed f = record {
-  c00 = f .c00;
-  c10 = f .c01;
-  c01 = f .c10;
-  c20 = f .c02;
-  c11 = f .c11;
-  c02 = f .c20;
-  c30 = f .c03;
-  c21 = f .c12;
-  c12 = f .c21;
-  c03 = f .c30;
-  divisor = f .divisor;
-}
+transposed f = cubicOf (λ p. coefficient f (exchange p)) (f .divisor)
 
 -- the cubic at (r, 1 − s)
 unfoldable pub flipped : Cubic → Cubic
