@@ -9,7 +9,7 @@ use lib.Dec.{T, ltb, ltb→lt}
 use lib.ListN.{getD}
 use lib.IntN.{ℤ, pos, natAbs}
 use Rattle.sibson.specs.Fraction.{Positive, positive}
-use Rattle.sibson.specs.Cubic.{Cell, Cubic, Power, one, r¹, s¹, r², rs, s², r³, r²s, rs², s³, coefficient, cubicOf, _≅_, jet}
+use Rattle.sibson.specs.Cubic.{Cell, Cubic, Power, r², s², s³, coefficient, cubicOf, _≅_, jet}
 use Rattle.sibson.specs.Piece.{Piece, top, right, bottom, left, number, next, FourCubics, triangle, Corner, at}
 use Rattle.sibson.specs.Conditions.{Smooth, SameCorners, Equal}
 use Rattle.sibson.specs.Element.{column, +_, −_}

@@ -4,7 +4,7 @@ use mathlib.Core.List.{List, [], _∷_}
 use Prim.Native.Nat.{_*_}
 use lib.IntN.{ℤ, pos, _-ℤ_, _*ℤ_}
 use Rattle.sibson.specs.Fraction.{_≈_, _-ℚ_, _*⁺_}
-use Rattle.sibson.specs.Cubic.{Cell, Point, Cubic, Power, one, r¹, s¹, r², rs, s², r³, r²s, rs², s³, coefficient, cubicOf, _≅_, value, byR, byS, Jet, jet, _≋_}
+use Rattle.sibson.specs.Cubic.{Cell, Point, Cubic, Power, coefficient, cubicOf, _≅_, value, byR, byS, Jet, jet, _≋_}
 use Rattle.sibson.specs.Piece.{Piece, top, right, bottom, left}
 use Rattle.sibson.specs.Conditions.{squareTerm, squareInR, squareInS}
 use Rattle.integers.proofs.Polynomial.{Expr, #_, _⊕_, _⊗_, _⊝_, ⊖_}

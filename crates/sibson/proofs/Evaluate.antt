@@ -1,16 +1,14 @@
 -- A cubic's value over one denominator: at (a/p, b/q) it is Σ cᵢⱼ aⁱ p³⁻ⁱ bʲ q³⁻ʲ over divisor · p³ q³. Assumes nothing.
 use mathlib.Core.Path.{_≡_, refl, sym, _∙_, ap}
-use mathlib.Core.Bool.{Bool, _&&_}
-use mathlib.Core.List.{List, [], _∷_}
+use mathlib.Core.List.{[], _∷_}
 use Prim.Native.Nat.{_*_}
-use lib.Dec.{T}
 use lib.IntN.{ℤ, pos, _+ℤ_, _*ℤ_, zero-*ℤ}
 use Rattle.sibson.specs.Fraction.{Positive, ℚ, _≈_, _*⁺_, _·ℚ_, whole}
 use Rattle.sibson.specs.Cubic.{Cell, Point, Cubic, value, byR, byS, Jet, jet, _≋_}
 use Rattle.sibson.specs.Theorems.{perPixel}
-use Rattle.integers.proofs.Polynomial.{Expr, #_, _⊕_, _⊗_, ⊖_, eval}
-use Rattle.integers.proofs.Solve.{_≐_, same, same-sound}
-use Rattle.integers.proofs.Deduce.{_·_, _⊨_, deduce, both}
+use Rattle.integers.proofs.Polynomial.{Expr, #_, _⊕_, _⊗_, ⊖_}
+use Rattle.integers.proofs.Solve.{_≐_}
+use Rattle.integers.proofs.Deduce.{_·_, _⊨_, deduce}
 use Rattle.integers.proofs.Order.{*ℤ-cancel-r}
 use Rattle.sibson.proofs.Fractions.{≈-refl, ≈-sym, ≈-trans, ≈-·, ≈-÷, ≈-÷-none}
 use Rattle.sibson.proofs.Jets.{none, ≋-trans}

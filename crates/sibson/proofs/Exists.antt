@@ -7,7 +7,7 @@ use Rattle.sibson.specs.Fraction.{ℚ, Positive, positive, whole}
 use Rattle.sibson.specs.Cubic.{Cell, jet, _≋_}
 use Rattle.sibson.specs.Piece.{Piece, next, triangle, Corner, leftTop, rightTop, leftBottom, rightBottom, at}
 use Rattle.sibson.specs.Conditions.{Meets, Smooth, squareTerm}
-use Rattle.sibson.specs.Element.{Nodes, CornerNumbers, cornerNumbers, inOrder, column, weights, swap, exchanged, sibson, element}
+use Rattle.sibson.specs.Element.{Nodes, CornerNumbers, cornerNumbers, inOrder, weights, swap, exchanged, sibson, element}
 use Rattle.sibson.specs.Theorems.{Has, perPixel, wholes}
 use Rattle.integers.proofs.Polynomial.{#_, _⊗_}
 use Rattle.integers.proofs.Solve.{solve, _≐_}

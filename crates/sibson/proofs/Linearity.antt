@@ -3,19 +3,20 @@ use mathlib.Core.Path.{_≡_}
 use mathlib.Core.List.{[], _∷_}
 use lib.IntN.{ℤ, pos}
 use lib.Signed.{leZ-yes}
-use Prim.Native.Nat.{_<_}
-use native.Mathlib.Omega.{arith}
+use Prim.Native.Nat.{_*_}
+use native.Mathlib.Nat.{mul-pos}
+use lib.Dec.{ltb→lt}
 use Rattle.sibson.specs.Fraction.{Positive, ℚ, _≈_, _+ℚ_, _-ℚ_, _*ℚ_, _·ℚ_, _÷_, whole, half, complement}
 use Rattle.sibson.specs.Cubic.{Cell, Cubic, value, byR, byS, jet}
 use Rattle.sibson.specs.Piece.{Piece, top, right, bottom, left, edge}
 use Rattle.sibson.specs.Conditions.{squareTerm, squareInR, squareInS}
 use Rattle.sibson.specs.Sense.{crossSlope, Straight, Linearity}
-use Rattle.integers.proofs.Polynomial.{var, #_, _⊗_, _⊕_, ⊖_}
+use Rattle.integers.proofs.Polynomial.{var, #_, _⊗_, ⊖_}
 use Rattle.integers.proofs.Solve.{_≐_}
-use Rattle.integers.proofs.Deduce.{_·_, _⊨_, deduce}
+use Rattle.integers.proofs.Deduce.{_·_, certified-sound}
 use Rattle.integers.proofs.Order.{*ℤ-cancel-r}
 use Rattle.sibson.proofs.Fractions.{≈-sym, ≈-trans}
-use Rattle.sibson.proofs.Quote.{Quotient, wholeₑ, _+ₑ_, _-ₑ_, _*ₑ_, _·ₑ_, _÷ₑ_, valueₑ, byRₑ, bySₑ, squareₑ, equal, anyₑ, rₑ, any}
+use Rattle.sibson.proofs.Quote.{complementₑ, Quotient, wholeₑ, _+ₑ_, _-ₑ_, _*ₑ_, _·ₑ_, _÷ₑ_, valueₑ, byRₑ, bySₑ, squareₑ, equal, anyₑ, rₑ, any, _≈ₑ_, nil, fractionₑ, fraction}
 
 -- the size of the cell across a piece's edge
 abbrev across : Cell → Piece → Positive
@@ -41,10 +42,10 @@ slopeₑ bottom t = valueₑ (bySₑ anyₑ) t (wholeₑ (# 1)) ÷ₑ var 15
 slopeₑ left t = valueₑ (byRₑ anyₑ) (wholeₑ (# 0)) t ÷ₑ var 15
 
 abbrev lineₑ : Piece → Quotient
-lineₑ k = (wholeₑ (# 1) -ₑ rₑ) *ₑ slopeₑ k (wholeₑ (# 0)) +ₑ rₑ *ₑ slopeₑ k (wholeₑ (# 1))
+lineₑ k = (complementₑ rₑ) *ₑ slopeₑ k (wholeₑ (# 0)) +ₑ rₑ *ₑ slopeₑ k (wholeₑ (# 1))
 
 abbrev sagₑ : Piece → Quotient
-sagₑ k = squareₑ k anyₑ ·ₑ (rₑ *ₑ (wholeₑ (# 1) -ₑ rₑ)) ÷ₑ var 10 ÷ₑ var 15
+sagₑ k = squareₑ k anyₑ ·ₑ (rₑ *ₑ (complementₑ rₑ)) ÷ₑ var 10 ÷ₑ var 15
 
 sagging : (C : Cell) (k : Piece) (f : Cubic) (t : ℚ) → crossSlope C k f (edge k t) ≈ line C k f t -ℚ sag C k f t
 unfolding crossSlope jet value byR byS squareTerm squareInR squareInS
@@ -56,15 +57,14 @@ sagging C left f t = record { crossed = equal (slopeₑ left rₑ) (lineₑ left
 -- ---- nothing is taken away exactly where the square term is 0
 
 without : (x y : ℚ) (c : ℤ) → c ≡ pos 0 → x -ℚ c ·ℚ y ≈ x
-without x y c e = record {
-  crossed = deduce 5 (λ a p b q c. (⊖ (b ⊗ p ⊗ p) · (c ≐ # 0)) ∷ [] ⊨ (a ⊗ q ⊕ ⊖ # 1 ⊗ (c ⊗ b) ⊗ p) ⊗ p ≐ a ⊗ (p ⊗ q)) tt
-      (x .numerator) (pos (x .denominator .number)) (y .numerator) (pos (y .denominator .number)) c e;
+without x y c e = let u = fractionₑ 0 in let v = fractionₑ 2 in record {
+  crossed = certified-sound ((⊖ (v .num ⊗ u .den ⊗ u .den) · nil (var 4)) ∷ []) (u -ₑ var 4 ·ₑ v ≈ₑ u) tt (fraction x (fraction y (c ∷ []))) e;
 }
 
 nothing : (x z : ℚ) → x ≈ x -ℚ z → z .numerator ≡ pos 0
-nothing x z e = *ℤ-cancel-r (x .denominator .number) (x .denominator .above) (*ℤ-cancel-r (x .denominator .number) (x .denominator .above)
-    (deduce 4 (λ a p b q. (# 1 · (a ⊗ (p ⊗ q) ≐ (a ⊗ q ⊕ ⊖ # 1 ⊗ b ⊗ p) ⊗ p)) ∷ [] ⊨ b ⊗ p ⊗ p ≐ # 0 ⊗ p ⊗ p) tt
-    (x .numerator) (pos (x .denominator .number)) (z .numerator) (pos (z .denominator .number)) (e .crossed)))
+nothing x z e = let u = fractionₑ 0 in let v = fractionₑ 2 in let d = u .den ⊗ u .den in
+    *ℤ-cancel-r (x .denominator .number * x .denominator .number) (mul-pos (x .denominator .above) (x .denominator .above))
+    (certified-sound ((# 1 · (u ≈ₑ u -ₑ v)) ∷ []) (v .num ⊗ d ≐ # 0 ⊗ d) tt (fraction x (fraction z [])) (e .crossed))
 
 straight : (C : Cell) (k : Piece) (f : Cubic) → squareTerm k f ≡ pos 0 → Straight C k f
 unfolding Straight
@@ -73,12 +73,9 @@ straight C k f e t _ _ =
 
 no-square : (C : Cell) (k : Piece) (f : Cubic) → Straight C k f → squareTerm k f ≡ pos 0
 unfolding Straight
-no-square C k f l = *ℤ-cancel-r 1 one>0
+no-square C k f l = *ℤ-cancel-r 1 (ltb→lt 0 1 tt)
     (nothing (line C k f half) (sag C k f half)
     (≈-trans {y = crossSlope C k f (edge k half)} (≈-sym (l half (record { crossed = leZ-yes tt }) (record { crossed = leZ-yes tt }))) (sagging C k f half)))
-  where
-    one>0 : 0 < 1
-    one>0 = omega arith
 
 pub linearity : Linearity
 linearity = record { straight = λ C k f. (straight C k f, no-square C k f) }

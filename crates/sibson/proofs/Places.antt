@@ -14,7 +14,7 @@ use Rattle.integers.proofs.Polynomial.{Expr, var, #_, _⊗_}
 use Rattle.integers.proofs.Solve.{same, same-sound}
 use Rattle.sibson.proofs.Fractions.{≈-refl}
 use Rattle.sibson.proofs.Jets.{≋-sym, ≋-trans, _≈ₚ_, jet-at}
-use Rattle.sibson.proofs.Quote.{Quotient, wholeₑ, _-ₑ_, Cubicₑ, squareₑ, evaluated, fractionₑ, fraction, three, sameThree, same-three}
+use Rattle.sibson.proofs.Quote.{complementₑ, Quotient, wholeₑ, Cubicₑ, squareₑ, evaluated, fractionₑ, fraction, three, sameThree, same-three}
 use Rattle.sibson.proofs.Evaluate.{numerator, cubes, numeratorsAt, by-numerators, by-numbers, numeratorsₑ}
 
 -- ---- variables: 0 is W, 1 is H, 2 / 3 is a fraction t, others follow
@@ -48,9 +48,9 @@ on-line bottom P h = record { rs = h .0; ss = ≈-refl (P .s) }
 on-line left P h = record { rs = h .0; ss = ≈-refl (P .s) }
 
 abbrev onLineₑ : Piece → Cubicₑ → Jet Expr
-onLineₑ top f = numeratorsₑ f (wholeₑ (# 1) -ₑ tₑ) tₑ
+onLineₑ top f = numeratorsₑ f (complementₑ tₑ) tₑ
 onLineₑ right f = numeratorsₑ f tₑ tₑ
-onLineₑ bottom f = numeratorsₑ f (wholeₑ (# 1) -ₑ tₑ) tₑ
+onLineₑ bottom f = numeratorsₑ f (complementₑ tₑ) tₑ
 onLineₑ left f = numeratorsₑ f tₑ tₑ
 
 -- the pieces k and next k of a quoted set agree on the line between them

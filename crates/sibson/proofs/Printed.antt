@@ -5,12 +5,12 @@ use lib.IntN.{ℤ, pos}
 use Rattle.sibson.specs.Fraction.{_≈_, positive, complement}
 use Rattle.sibson.specs.Cubic.{Point, value}
 use Rattle.sibson.specs.Piece.{Piece, top, right, bottom, left}
-use Rattle.sibson.specs.Element.{CornerNumbers, inOrder, column, weights, weighed, halved, transposed, flipped, mirrored, swap, exchanged, onTop, onLeft, sibson}
+use Rattle.sibson.specs.Element.{CornerNumbers, inOrder, weights, weighed, halved, transposed, flipped, mirrored, swap, exchanged, onTop, onLeft, sibson}
 use Rattle.sibson.specs.Source.{formula, row, table, source, Sources}
 use Rattle.integers.proofs.Polynomial.{Expr, #_, _⊗_}
 use Rattle.integers.proofs.Solve.{_≐_, same-sound, solve}
 use Rattle.integers.proofs.Order.{pos-inj}
-use Rattle.sibson.proofs.Quote.{Quotient, evaluated, fractionₑ, fraction, wholeₑ, _-ₑ_}
+use Rattle.sibson.proofs.Quote.{complementₑ, Quotient, evaluated, fractionₑ, fraction}
 use Rattle.sibson.proofs.Evaluate.{numerator, cubes, by-numerator, numeratorₑ}
 use Rattle.sibson.proofs.QuoteElement.{halvedₑ, numbersₑ, elementₑ, sibson-is}
 
@@ -27,8 +27,8 @@ given P n = fraction (P .r) (fraction (P .s) (inOrder n))
 
 abbrev printedₑ : Piece → Expr
 printedₑ top = numeratorₑ (halvedₑ (table top) numbersₑ) rₑ sₑ
-printedₑ right = numeratorₑ (halvedₑ (table right) numbersₑ) (wholeₑ (# 1) -ₑ rₑ) (wholeₑ (# 1) -ₑ sₑ)
-printedₑ bottom = numeratorₑ (halvedₑ (table bottom) numbersₑ) (wholeₑ (# 1) -ₑ rₑ) (wholeₑ (# 1) -ₑ sₑ)
+printedₑ right = numeratorₑ (halvedₑ (table right) numbersₑ) (complementₑ rₑ) (complementₑ sₑ)
+printedₑ bottom = numeratorₑ (halvedₑ (table bottom) numbersₑ) (complementₑ rₑ) (complementₑ sₑ)
 printedₑ left = numeratorₑ (halvedₑ (table left) numbersₑ) rₑ sₑ
 
 same-numerators : (k : Piece) (n : CornerNumbers) (P : Point) → numerator (evaluated (given P n) (elementₑ k) (positive 2 tt)) P ≡ numerator (halved (table k) n) (source k P)

@@ -6,7 +6,7 @@ use lib.Dec.{T}
 use lib.IntN.{ℤ, pos, _*ℤ_}
 use Prim.Native.Nat.{ℕ, _+_}
 use Rattle.integers.proofs.Polynomial.{Expr, var, #_, _⊕_, _⊗_, ⊖_, eval}
-use Rattle.integers.proofs.Solve.{Claim, _≐_, Holds, same, same-sound}
+use Rattle.integers.proofs.Solve.{Claim, _≐_, _≼_, Holds, same, same-sound}
 use Rattle.integers.proofs.Deduce.{both}
 use Rattle.sibson.specs.Fraction.{Positive, ℚ}
 use Rattle.sibson.specs.Cubic.{Point, Cubic, Power, one, r¹, s¹, r², rs, s², r³, r²s, rs², s³, cubicOf, Jet, _≋_}
@@ -15,7 +15,7 @@ use Rattle.sibson.specs.Element.{column, exchange}
 
 -- ---- fractions
 
-infix 20 _≈ₑ_
+infix 20 _≈ₑ_ _≤ₑ_
 infixl 60 _+ₑ_ _-ₑ_
 infixl 70 _*ₑ_ _·ₑ_ _÷ₑ_
 infix 80 _/ₑ_
@@ -46,6 +46,12 @@ x -ₑ y = x +ₑ ⊖ # 1 ·ₑ y
 
 abbrev pub _≈ₑ_ : Quotient → Quotient → Claim
 x ≈ₑ y = x .num ⊗ y .den ≐ y .num ⊗ x .den
+
+abbrev pub _≤ₑ_ : Quotient → Quotient → Claim
+x ≤ₑ y = x .num ⊗ y .den ≼ y .num ⊗ x .den
+
+abbrev pub complementₑ : Quotient → Quotient
+complementₑ x = wholeₑ (# 1) -ₑ x
 
 -- is 0
 abbrev pub nil : Expr → Claim

@@ -4,7 +4,7 @@ use mathlib.Core.List.{List, [], _∷_}
 use lib.ListN.{getD}
 use lib.IntN.{ℤ, pos}
 use Rattle.sibson.specs.Fraction.{positive}
-use Rattle.sibson.specs.Cubic.{Power, one, r¹, s¹, r², rs, s², r³, r²s, rs², s³, Jet}
+use Rattle.sibson.specs.Cubic.{Power, Jet}
 use Rattle.sibson.specs.Piece.{Piece, top, right, bottom, left, Corner, leftTop, rightTop, leftBottom, rightBottom}
 use Rattle.sibson.specs.Element.{CornerNumbers, inOrder, column, weights, weighed, halved, transposed, flipped, mirrored, swap, negateX, negateY, exchanged, topDown, leftRight, onTop, onLeft, sibson}
 use Rattle.integers.proofs.Polynomial.{Expr, var, con, #_, _⊕_, _⊗_, ⊖_}

@@ -16,7 +16,7 @@ use Rattle.sibson.proofs.Finite.{every-piece, everyCorner, every-corner
 use Rattle.sibson.proofs.Jets.{≋-sym, ≋-trans, _≈ₚ_, jet-at, none}
 use Rattle.sibson.proofs.Coefficients.{Zero}
 use Rattle.sibson.proofs.Places.{SmoothAt}
-use Rattle.sibson.proofs.Quote.{wholeₑ, _-ₑ_, _·ₑ_, nil, Cubicₑ, valueₑ, byRₑ, bySₑ, transposedₑ, flippedₑ, squareₑ, equal, anyₑ, rₑ, sₑ, any, cubic}
+use Rattle.sibson.proofs.Quote.{complementₑ, _·ₑ_, nil, Cubicₑ, valueₑ, byRₑ, bySₑ, transposedₑ, flippedₑ, squareₑ, equal, anyₑ, rₑ, sₑ, any, cubic}
 
 unfoldable pub rotated : Cubic → Cubic
 rotated f = flipped (transposed f)
@@ -41,15 +41,15 @@ rotatedₑ = flippedₑ (transposedₑ anyₑ)
 
 rotated-value : (f : Cubic) (P : Point) → value (rotated f) P ≈ value f (around P)
 unfolding value rotated flipped transposed
-rotated-value f P = record { crossed = equal (valueₑ rotatedₑ rₑ sₑ) (valueₑ anyₑ (wholeₑ (# 1) -ₑ sₑ) rₑ) tt (any f P []) }
+rotated-value f P = record { crossed = equal (valueₑ rotatedₑ rₑ sₑ) (valueₑ anyₑ (complementₑ sₑ) rₑ) tt (any f P []) }
 
 rotated-byR : (f : Cubic) (P : Point) → value (byR (rotated f)) P ≈ value (byS f) (around P)
 unfolding value rotated flipped transposed byR byS
-rotated-byR f P = record { crossed = equal (valueₑ (byRₑ rotatedₑ) rₑ sₑ) (valueₑ (bySₑ anyₑ) (wholeₑ (# 1) -ₑ sₑ) rₑ) tt (any f P []) }
+rotated-byR f P = record { crossed = equal (valueₑ (byRₑ rotatedₑ) rₑ sₑ) (valueₑ (bySₑ anyₑ) (complementₑ sₑ) rₑ) tt (any f P []) }
 
 rotated-byS : (f : Cubic) (P : Point) → value (byS (rotated f)) P ≈ negℤ (pos 1) ·ℚ value (byR f) (around P)
 unfolding value rotated flipped transposed byR byS
-rotated-byS f P = record { crossed = equal (valueₑ (bySₑ rotatedₑ) rₑ sₑ) (⊖ # 1 ·ₑ valueₑ (byRₑ anyₑ) (wholeₑ (# 1) -ₑ sₑ) rₑ) tt (any f P []) }
+rotated-byS f P = record { crossed = equal (valueₑ (bySₑ rotatedₑ) rₑ sₑ) (⊖ # 1 ·ₑ valueₑ (byRₑ anyₑ) (complementₑ sₑ) rₑ) tt (any f P []) }
 
 pub rotated-jet : (C : Cell) (f : Cubic) (P : Point) → jet (onSide C) (rotated f) P ≋ quarter (jet C f (around P))
 unfolding jet

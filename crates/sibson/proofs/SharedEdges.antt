@@ -6,12 +6,12 @@ use lib.IntN.{ℤ, pos, negℤ, _+ℤ_, _*ℤ_}
 use Rattle.sibson.specs.Fraction.{Positive, positive, ℚ, _+ℚ_, _-ℚ_, _*ℚ_, _·ℚ_, _÷_, complement}
 use Rattle.sibson.specs.Cubic.{Cell, Point, Cubic, byR, byS, Jet, jet, _≋_}
 use Rattle.sibson.specs.Piece.{Piece, top, right, bottom, left, edge, leftTop, rightTop, leftBottom, rightBottom}
-use Rattle.sibson.specs.Element.{Nodes, cornerNumbers, inOrder, column, weights, weighed, halved, transposed, flipped, mirrored, swap, negateX, negateY, exchanged, topDown, leftRight, onTop, onLeft, sibson, element}
+use Rattle.sibson.specs.Element.{Nodes, cornerNumbers, inOrder, weights, weighed, halved, transposed, flipped, mirrored, swap, negateX, negateY, exchanged, topDown, leftRight, onTop, onLeft, sibson, element}
 use Rattle.sibson.specs.Theorems.{lengthOf, first, last, AgreeAlong, Edges}
 use Rattle.integers.proofs.Polynomial.{Expr, #_, _⊕_, _⊗_, ⊖_}
 use Rattle.sibson.proofs.Fractions.{≈-÷}
 use Rattle.sibson.proofs.Jets.{≋-sym, ≋-trans}
-use Rattle.sibson.proofs.Quote.{Quotient, wholeₑ, _+ₑ_, _-ₑ_, _*ₑ_, _·ₑ_, _÷ₑ_, Cubicₑ, byRₑ, bySₑ, Jetₑ, decided, jets, evaluated}
+use Rattle.sibson.proofs.Quote.{complementₑ, Quotient, wholeₑ, _+ₑ_, _-ₑ_, _*ₑ_, _·ₑ_, _÷ₑ_, Cubicₑ, byRₑ, bySₑ, Jetₑ, decided, jets, evaluated}
 use Rattle.sibson.proofs.Evaluate.{numerator, cubes, common, value-is, commonₑ}
 use Rattle.sibson.proofs.QuoteElement.{Cornersₑ, sibsonₑ, numbersₑ}
 use Rattle.sibson.proofs.Places.{Wₑ, Hₑ, tₑ, given}
@@ -49,7 +49,7 @@ abbrev commonJetₑ : Cubicₑ → Quotient → Quotient → Jetₑ
 commonJetₑ f r s = record { height = commonₑ f r s; xSlope = commonₑ (byRₑ f) r s ÷ₑ Wₑ; ySlope = commonₑ (bySₑ f) r s ÷ₑ Hₑ }
 
 abbrev alongₑ : Expr → Jet Expr → Jet Expr → Quotient → Jetₑ
-alongₑ l a b t = let u = wholeₑ (# 1) -ₑ t in record {
+alongₑ l a b t = let u = complementₑ t in record {
   height = a .height ·ₑ (u *ₑ u *ₑ (u +ₑ # 3 ·ₑ t)) +ₑ (l ⊗ a .xSlope) ·ₑ (t *ₑ u *ₑ u)
       +ₑ b .height ·ₑ (t *ₑ t *ₑ (t +ₑ # 3 ·ₑ u)) +ₑ ⊖ (l ⊗ b .xSlope) ·ₑ (t *ₑ t *ₑ u);
   xSlope = ((b .height ⊕ ⊖ (a .height)) ·ₑ (# 6 ·ₑ (t *ₑ u))) ÷ₑ l +ₑ a .xSlope ·ₑ (u *ₑ (u -ₑ # 2 ·ₑ t)) +ₑ b .xSlope ·ₑ (t *ₑ (t -ₑ # 2 ·ₑ u));

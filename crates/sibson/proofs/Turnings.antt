@@ -4,9 +4,8 @@ use Rattle.sibson.specs.Fraction.{_≈_, complement}
 use Rattle.sibson.specs.Cubic.{Point, Cubic, value}
 use Rattle.sibson.specs.Element.{transposed, flipped, mirrored, exchanged, topDown, leftRight, onTop, onLeft, sibson}
 use Rattle.sibson.specs.Sense.{Turnings}
-use Rattle.integers.proofs.Polynomial.{#_}
 use Rattle.sibson.proofs.Fractions.{≈-trans}
-use Rattle.sibson.proofs.Quote.{wholeₑ, _-ₑ_, valueₑ, transposedₑ, flippedₑ, equal, anyₑ, rₑ, sₑ, any}
+use Rattle.sibson.proofs.Quote.{complementₑ, valueₑ, transposedₑ, flippedₑ, equal, anyₑ, rₑ, sₑ, any}
 
 transposing : (f : Cubic) (P : Point) → value (transposed f) P ≈ value f (record { r = P .s; s = P .r })
 unfolding value transposed
@@ -14,7 +13,7 @@ transposing f P = record { crossed = equal (valueₑ (transposedₑ anyₑ) rₑ
 
 flipping : (f : Cubic) (P : Point) → value (flipped f) P ≈ value f (record { r = P .r; s = complement (P .s) })
 unfolding value flipped
-flipping f P = record { crossed = equal (valueₑ (flippedₑ anyₑ) rₑ sₑ) (valueₑ anyₑ rₑ (wholeₑ (# 1) -ₑ sₑ)) tt (any f P []) }
+flipping f P = record { crossed = equal (valueₑ (flippedₑ anyₑ) rₑ sₑ) (valueₑ anyₑ rₑ (complementₑ sₑ)) tt (any f P []) }
 
 mirroring : (f : Cubic) (P : Point) → value (mirrored f) P ≈ value f (record { r = complement (P .r); s = P .s })
 unfolding mirrored

@@ -1,7 +1,7 @@
 -- The examples, computed. Assumes nothing.
 use mathlib.Core.Path.{refl}
 use Rattle.sibson.specs.Cubic.{value, byR, byS, jet, bend}
-use Rattle.sibson.specs.Element.{cornerNumbers, inOrder, column, weights, weighed, halved, transposed, flipped, mirrored, swap, negateX, negateY, exchanged, topDown, leftRight, onTop, onLeft, sibson, element}
+use Rattle.sibson.specs.Element.{cornerNumbers, inOrder, weights, weighed, halved, transposed, flipped, mirrored, swap, negateX, negateY, exchanged, topDown, leftRight, onTop, onLeft, sibson, element}
 use Rattle.sibson.specs.Theorems.{wholes}
 use Rattle.sibson.specs.Examples.{Reads, Examples}
 use Rattle.sibson.proofs.Quote.{jets}
