@@ -14,7 +14,7 @@ use Rattle.integers.proofs.Solve.{_≐_, solve}
 
 -- ---- a difference of naturals
 
-cond-ind : {A : Type 0} (c : Bool) (x y : A) (P : A → Type 0) → (T c → P x) → (T (not c) → P y) → P (cond c x y)
+pub cond-ind : {A : Type 0} (c : Bool) (x y : A) (P : A → Type 0) → (T c → P x) → (T (not c) → P y) → P (cond c x y)
 cond-ind true x y P f g = f tt
 cond-ind false x y P f g = g tt
 

@@ -23,6 +23,7 @@ use Rattle.sibson.proofs.Evaluate.{numerator, numeratorₑ, cubes, vani
 use Rattle.sibson.proofs.Rotation.{rotated, onSide, quarter, rotatedSet, rotated-jet, ≋-quarter, smooth-rotated, square-rotated, NothingAtCorners, corners-rotated, zero-rotated}
 use Rattle.sibson.proofs.Coefficients.{edgewise, Squared, is-edgewise, Zero}
 
+-- a set that meets the conditions and has nothing at the corners; turned by a quarter it is one again
 pub record Blank (C : Cell) (D : FourCubics) : Type 0 where
   pub meets : Meets C D
   pub corners : NothingAtCorners C D

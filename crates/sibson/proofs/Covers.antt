@@ -12,6 +12,7 @@ use Rattle.sibson.specs.Piece.{Piece, top, right, bottom, left, number, 
 use Rattle.sibson.specs.Conditions.{Smooth}
 use Rattle.sibson.specs.Sense.{Sharing, same, with-next, with-previous, at-centre, Covering}
 use Rattle.integers.proofs.Deduce.{both}
+use Rattle.integers.proofs.Order.{cond-ind}
 use Rattle.sibson.proofs.Fractions.{≈-sym, ≈-complement, ≤-left, ≤-right, ≤-complement, ≤-trans, ≤-antisym, ≤-of-≈, ≤-yes, ≤-test, ≤-no, ≤-swap, ≤-swap′, below-half, above-half, half-complement}
 use Rattle.sibson.proofs.Finite.{and}
 use Rattle.sibson.proofs.Jets.{≋-refl, ≋-sym, ≋-trans}
@@ -39,10 +40,6 @@ either false f g = g tt
 contradiction : (c : Bool) {A : Type 0} → T c → T (not c) → A
 contradiction true s t = absurd t
 contradiction false s t = absurd s
-
-cond-ind : {A : Type 0} (c : Bool) (x y : A) (P : A → Type 0) → (T c → P x) → (T (not c) → P y) → P (cond c x y)
-cond-ind true x y P f g = f tt
-cond-ind false x y P f g = g tt
 
 -- ---- the two inequalities of a triangle
 

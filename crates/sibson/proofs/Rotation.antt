@@ -11,16 +11,18 @@ use Rattle.sibson.specs.Conditions.{squareTerm, squareInR, squareInS}
 use Rattle.sibson.specs.Element.{transposed, flipped}
 use Rattle.integers.proofs.Polynomial.{#_, ⊖_}
 use Rattle.integers.proofs.Deduce.{_·_, certified-sound}
-use Rattle.sibson.proofs.Fractions.{≈-sym, ≈-·, ≈-÷, ≈-complement, ≤-left, ≤-right, ≤-complement, half-complement}
+use Rattle.sibson.proofs.Fractions.{≈-sym, ≈-trans, ≈-·, ≈-÷, ≈-complement, ≤-left, ≤-right, ≤-complement, half-complement}
 use Rattle.sibson.proofs.Finite.{every-piece, everyCorner, every-corner, implies, implied}
 use Rattle.sibson.proofs.Jets.{≋-sym, ≋-trans, _≈ₚ_, jet-at, none}
 use Rattle.sibson.proofs.Coefficients.{Zero}
 use Rattle.sibson.proofs.Places.{SmoothAt}
+use Rattle.sibson.proofs.Turnings.{transposing, flipping}
 use Rattle.sibson.proofs.Quote.{complementₑ, _·ₑ_, nil, Cubicₑ, valueₑ, byRₑ, bySₑ, transposedₑ, flippedₑ, squareₑ, equal, anyₑ, rₑ, sₑ, any, cubic}
 
 unfoldable pub rotated : Cubic → Cubic
 rotated f = flipped (transposed f)
 
+-- the point where a turned cubic has its value
 abbrev pub around : Point → Point
 around P = record { r = complement (P .s); s = P .r }
 
@@ -28,9 +30,11 @@ around P = record { r = complement (P .s); s = P .r }
 abbrev pub onSide : Cell → Cell
 onSide C = record { W = C .H; H = C .W }
 
+-- heights and slopes turned with the cell
 abbrev pub quarter : Jet ℚ → Jet ℚ
 quarter j = record { height = j .height; xSlope = j .ySlope; ySlope = negℤ (pos 1) ·ℚ j .xSlope }
 
+-- each piece turned to the place before its own
 unfoldable pub rotatedSet : FourCubics → FourCubics
 rotatedSet S k = rotated (S (next k))
 
@@ -40,8 +44,9 @@ abbrev rotatedₑ : Cubicₑ
 rotatedₑ = flippedₑ (transposedₑ anyₑ)
 
 rotated-value : (f : Cubic) (P : Point) → value (rotated f) P ≈ value f (around P)
-unfolding value rotated flipped transposed
-rotated-value f P = record { crossed = equal (valueₑ rotatedₑ rₑ sₑ) (valueₑ anyₑ (complementₑ sₑ) rₑ) tt (any f P []) }
+unfolding rotated
+rotated-value f P = let Q : Point = record { r = P .r; s = complement (P .s) } in
+    ≈-trans {y = value (transposed f) Q} (flipping (transposed f) P) (transposing f Q)
 
 rotated-byR : (f : Cubic) (P : Point) → value (byR (rotated f)) P ≈ value (byS f) (around P)
 unfolding value rotated flipped transposed byR byS

@@ -7,11 +7,11 @@ use Rattle.sibson.specs.Sense.{Turnings}
 use Rattle.sibson.proofs.Fractions.{≈-trans}
 use Rattle.sibson.proofs.Quote.{complementₑ, valueₑ, transposedₑ, flippedₑ, equal, anyₑ, rₑ, sₑ, any}
 
-transposing : (f : Cubic) (P : Point) → value (transposed f) P ≈ value f (record { r = P .s; s = P .r })
+pub transposing : (f : Cubic) (P : Point) → value (transposed f) P ≈ value f (record { r = P .s; s = P .r })
 unfolding value transposed
 transposing f P = record { crossed = equal (valueₑ (transposedₑ anyₑ) rₑ sₑ) (valueₑ anyₑ sₑ rₑ) tt (any f P []) }
 
-flipping : (f : Cubic) (P : Point) → value (flipped f) P ≈ value f (record { r = P .r; s = complement (P .s) })
+pub flipping : (f : Cubic) (P : Point) → value (flipped f) P ≈ value f (record { r = P .r; s = complement (P .s) })
 unfolding value flipped
 flipping f P = record { crossed = equal (valueₑ (flippedₑ anyₑ) rₑ sₑ) (valueₑ anyₑ rₑ (complementₑ sₑ)) tt (any f P []) }
 
