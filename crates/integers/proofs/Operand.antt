@@ -7,14 +7,14 @@ use Prim.Native.Nat.{ℕ, _+_, _/_, _^_, _≤_, _<_}
 use native.Mathlib.Nat.{lt-of-le-of-lt, le-trans}
 use native.Mathlib.Omega.{arith}
 use lib.Dec.{T, ltb, lit<, ltb→lt}
-use lib.IntN.{ℤ, pos, negsuc, natAbs, _+ℤ_, _-ℤ_, _*ℤ_}
+use lib.IntN.{ℤ, pos, negsuc, negℤ, natAbs, _+ℤ_, _-ℤ_, _*ℤ_, +ℤ-idl}
 use lib.Signed.{mag, quotZ, shrZ, ltZ, leZ, _<ℤ_, _≤ℤ_, ltZ-yes, ltZ-no, leZ-yes, nonNeg, yes-nonNeg, natAbs-le}
 use mir.Syntax.{Width}
 use mir.Val.{Fits, SFits, bits, hbits, toZ, ofZ}
 use mir.ValLaws.{toZ-ofZ, toZ-pos}
 use Rattle.integers.specs.Within.{_within_}
 use Rattle.integers.proofs.Order.{not-leZ}
-use Rattle.integers.proofs.Bounds.{is-within, within-self, within-+, within--, within-*, within-quot, within-shr}
+use Rattle.integers.proofs.Bounds.{is-within, within-self, within-neg, within-+, within--, within-*, within-quot, within-shr}
 
 pub record Operand : Type 0 where
   pub read : ℤ
@@ -99,6 +99,16 @@ x ⊟ y = operate _-ℤ_ x y (within-- (x .bounded) (y .bounded))
 
 abbrev pub _⊠_ : Operand → Operand → Operand
 x ⊠ y = operate _*ℤ_ x y (within-* (x .bounded) (y .bounded))
+
+-- −x, which the machine has as 0 − x
+abbrev pub opposite : Operand → Operand
+opposite x = record {
+  read = pos 0 -ℤ x .read;
+  number = negℤ (x .number);
+  bound = x .bound;
+  reads = (λ i. pos 0 -ℤ x .reads i) ∙ +ℤ-idl (negℤ (x .number));
+  bounded = within-neg (x .bounded);
+}
 
 -- rounded toward zero
 abbrev pub _⊘_ : Operand → Operand → Operand

@@ -2,7 +2,8 @@
 // exact arithmetic on fractions. A line: numerator, denominator, rounded down, rounded, rounded by prepared constants.
 ghost use Rattle.integers.specs.Ratio.{Ratio};
 use integers::Denominator;
-use libc::STDOUT_FILENO;
+use printing::field;
+use printing::last;
 
 const NUMERATORS: [i64; 24] = [
     0,
@@ -70,23 +71,5 @@ fn results(n: i64, d: i64)
 {
     field(integers::floor_div(n, d));
     field(integers::round(n, d));
-    show(Denominator::new(d).round(n));
-    io::write_all(STDOUT_FILENO, b"\n");
-}
-
-// A number and a blank.
-fn field(n: i64) {
-    show(n);
-    io::write_all(STDOUT_FILENO, b" ");
-}
-
-// A number in decimal. −n itself would not fit for the least one.
-fn show(n: i64) {
-    if n < 0 {
-        io::write_all(STDOUT_FILENO, b"-");
-        let m = -1 - n;
-        io::print_decimal(STDOUT_FILENO, m as u64 + 1);
-    } else {
-        io::print_decimal(STDOUT_FILENO, n as u64);
-    }
+    last(Denominator::new(d).round(n));
 }

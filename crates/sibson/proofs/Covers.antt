@@ -43,7 +43,7 @@ contradiction false s t = absurd s
 
 -- ---- the two inequalities of a triangle
 
-abbrev Inside : Piece → Point → Type 0
+abbrev pub Inside : Piece → Point → Type 0
 Inside top P = (P .s ≤ℚ P .r) × (P .s ≤ℚ complement (P .r))
 Inside right P = (P .s ≤ℚ P .r) × (complement (P .s) ≤ℚ P .r)
 Inside bottom P = (P .r ≤ℚ P .s) × (complement (P .r) ≤ℚ P .s)
@@ -52,7 +52,7 @@ Inside left P = (P .r ≤ℚ P .s) × (P .r ≤ℚ complement (P .s))
 two : (x y u v : ℚ) → T (leℚ x y && leℚ u v) → (x ≤ℚ y) × (u ≤ℚ v)
 two x y u v t = let (a, b) = both (leℚ x y) (leℚ u v) t in (≤-yes x y a, ≤-yes u v b)
 
-inside : (k : Piece) (P : Point) → T (triangle k P) → Inside k P
+pub inside : (k : Piece) (P : Point) → T (triangle k P) → Inside k P
 inside top P t = two (P .s) (P .r) (P .s) (complement (P .r)) t
 inside right P t = two (P .s) (P .r) (complement (P .s)) (P .r) t
 inside bottom P t = two (P .r) (P .s) (complement (P .r)) (P .s) t
@@ -61,7 +61,7 @@ inside left P t = two (P .r) (P .s) (P .r) (complement (P .s)) t
 tests : (x y u v : ℚ) → (x ≤ℚ y) × (u ≤ℚ v) → T (leℚ x y && leℚ u v)
 tests x y u v (a, b) = and (leℚ x y) (leℚ u v) (≤-test a) (≤-test b)
 
-test : (k : Piece) (P : Point) → Inside k P → T (triangle k P)
+pub test : (k : Piece) (P : Point) → Inside k P → T (triangle k P)
 test top P h = tests (P .s) (P .r) (P .s) (complement (P .r)) h
 test right P h = tests (P .s) (P .r) (complement (P .s)) (P .r) h
 test bottom P h = tests (P .r) (P .s) (complement (P .r)) (P .s) h

@@ -24,6 +24,4 @@ results-spec =
     (λ c κs. search needs)
     round-requires-2
     (λ c κs. search needs)
-    (λ c. search needs)
-    (λ c κs. search needs)
     (λ c. search needs))

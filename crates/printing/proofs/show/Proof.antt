@@ -1,4 +1,4 @@
--- `integers_test::show` meets its contract: below 0, −1 − n is a natural below 2⁶³. Assumes nothing.
+-- `printing::show` meets its contract: below 0, −1 − n is a natural below 2⁶³. Assumes nothing.
 use Prim.Native.Nat.{_^_, _-_}
 use native.Mathlib.Omega.{arith}
 use lib.IntN.{ℤ, pos, negsuc, _-ℤ_}
@@ -10,8 +10,8 @@ use Rattle.integers.specs.Within.{_within_}
 use Rattle.integers.proofs.Order.{reflected, pos-nonneg, <ℤ→<}
 use Rattle.integers.proofs.Bounds.{is-within}
 use Rattle.integers.proofs.Operand.{Operand, any, literal, stored, rebound, _⊟_, asks, asks-unsigned, read-within, less, not-less}
-use Rattle.integers_test.proofs.show.Statement.{statement}
-use Rattle.integers_test.proofs.show.Tie as tie
+use Rattle.printing.proofs.show.Statement.{statement}
+use Rattle.printing.proofs.show.Tie as tie
 
 below : (n : ℤ) → n <ℤ pos 0 → SFits w64 n → ((negsuc 0 -ℤ n) within (2 ^ 63 - 1)) × (pos 0 ≤ℤ (negsuc 0 -ℤ n))
 below (pos a) h f = absurd (omega (arith, <ℤ→< h))

@@ -1,0 +1,3 @@
+pub mod Parameters
+pub mod Sides
+pub mod Arrays

@@ -1,0 +1,13 @@
+pub mod WithinFractions
+pub mod Rounded
+pub mod WeightSums
+pub mod Form
+pub mod Parts
+pub mod InPiece
+pub mod HeightBounds
+pub mod SlopeBounds
+pub mod Bounds
+pub mod Changes
+pub mod CornerWeights
+pub mod AtCorners
+pub mod Examples

@@ -1,0 +1,4 @@
+pub mod Horner
+pub mod RowBounds
+pub mod Denominators
+pub mod Heights

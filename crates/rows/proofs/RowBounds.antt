@@ -1,0 +1,65 @@
+-- Bounds along a row: of a polynomial in s, and of the cubic in the offset. Assumes nothing.
+use mathlib.Core.Path.{subst⁻¹}
+use mathlib.Core.List.{List, [], _∷_}
+use Prim.Native.Nat.{ℕ, _+_, _*_, _^_, _≤_}
+use native.Mathlib.Nat.{le-trans, add-le-add, mul-le-mul}
+use native.Mathlib.Omega.{arith}
+use lib.ListN.{getD}
+use lib.IntN.{ℤ, pos, natAbs, _*ℤ_}
+use Rattle.integers.specs.Within.{_within_}
+use Rattle.integers.proofs.Bounds.{within-self, within-mono, within-+, within-*}
+use Rattle.sibson.specs.Cubic.{Cell, Cubic}
+use Rattle.readings.specs.Bounds.{largest, listed, size}
+use Rattle.rows.specs.Row.{down, alongRow, reach, InRow}
+use Rattle.corners.specs.Held.{Side, side, cell}
+use Rattle.pieces.specs.Doubled.{halves, Sized}
+use Rattle.corners.proofs.Sides.{length-within, square-within, cube-within, side-is}
+
+-- the first four
+unfoldable four : List ℤ → ℕ
+four zs = natAbs (getD zs 0 (pos 0)) + natAbs (getD zs 1 (pos 0)) + natAbs (getD zs 2 (pos 0)) + natAbs (getD zs 3 (pos 0))
+
+four-in-size : (zs : List ℤ) → four zs ≤ size zs
+unfolding size four
+four-in-size [] = omega arith
+four-in-size (a ∷ []) = omega arith
+four-in-size (a ∷ b ∷ []) = omega arith
+four-in-size (a ∷ b ∷ c ∷ []) = omega arith
+four-in-size (a ∷ b ∷ c ∷ d ∷ zs) = omega arith
+
+pub down-within : (c : List ℤ) {b h : ℕ} → b ≤ 64 → h ≤ 64 → down c b h within (size c * 2 ^ 18)
+unfolding down four
+down-within c {b} {h} u v =
+    within-mono
+    (within-+ (within-+ (within-+
+    (within-* (within-self (getD c 0 (pos 0))) (cube-within v))
+    (within-* (within-self (getD c 1 (pos 0))) (within-* (within-* (length-within u) (length-within v)) (length-within v))))
+    (within-* (within-self (getD c 2 (pos 0))) (within-* (square-within u) (length-within v))))
+    (within-* (within-self (getD c 3 (pos 0))) (cube-within u)))
+    (omega (arith, four-in-size c))
+
+-- p₀ + w (p₁ + w (p₂ + w p₃)), where pᵢ is w³⁻ⁱ times the polynomial in s that stands at rⁱ
+pub along-row-reach : (C : Cell) (f : Cubic) (b : ℕ) → C .W .number ≤ 64 → C .H .number ≤ 64 → b ≤ 64 → size (listed f) ≤ 256 * largest →
+    reach (alongRow C f b) (C .W .number) ≤ 2 ^ 62
+unfolding alongRow reach listed size
+along-row-reach C f b w h u s =
+    le-trans
+    (add-le-add (within-* (cube-within w) (polynomial (f .c00 ∷ f .c01 ∷ f .c02 ∷ f .c03 ∷ [])) .bound)
+    (mul-le-mul w (add-le-add (within-* (square-within w) (polynomial (f .c10 ∷ f .c11 ∷ f .c12 ∷ [])) .bound)
+    (mul-le-mul w (add-le-add (within-* (length-within w) (polynomial (f .c20 ∷ f .c21 ∷ [])) .bound)
+    (mul-le-mul w (polynomial (f .c30 ∷ []) .bound)))))))
+    (omega (arith, s))
+  where
+    polynomial : (c : List ℤ) → down c b (C .H .number) within (size c * 2 ^ 18)
+    polynomial c = down-within c u h
+
+pub in-row : {k : List ℤ} {w h a b : ℕ} → Sized k → Side w → Side h → a ≤ w → b ≤ h → InRow (alongRow (cell w h) (halves k) b) a
+unfolding cell
+in-row {k} {w} {h} {a} {b} s u v across down = record {
+  width = side w .number;
+  least = subst⁻¹ (λ (l : ℕ). 1 ≤ l) (side-is u) (u .least);
+  most = subst⁻¹ (λ (l : ℕ). l ≤ 64) (side-is u) (u .most);
+  within = subst⁻¹ (λ (l : ℕ). a ≤ l) (side-is u) across;
+  sum = along-row-reach (cell w h) (halves k) b (subst⁻¹ (λ (l : ℕ). l ≤ 64) (side-is u) (u .most)) (subst⁻¹ (λ (l : ℕ). l ≤ 64) (side-is v) (v .most))
+      (le-trans down (v .most)) (s .sum);
+}
