@@ -12,12 +12,12 @@ use Rattle.integers.proofs.Bounds.{is-within, within-self, within-mono, within-
 use Rattle.sibson.specs.Cubic.{Power, r¹, s¹, r², rs, s², r³, r²s, rs², s³, byR, byS}
 use Rattle.readings.specs.Bounds.{largest, listed}
 use Rattle.corners.specs.Held.{side, cell}
-use Rattle.pieces.specs.Doubled.{halves, Sized}
+use Rattle.turnings.specs.Doubled.{halves, Sized}
 use Rattle.evaluation.specs.Pixels.{EachWithin, cellOf, Inside}
 use Rattle.evaluation.specs.LowDegree.{scaledOf, linearAt, quadraticAt}
 use Rattle.evaluation.specs.declared.Pixel.{Pixel}
 use Rattle.corners.proofs.Sides.{length-within, side-is}
-use Rattle.pieces.proofs.Sizes.{sized-within}
+use Rattle.turnings.proofs.Sizes.{sized-within}
 
 -- ---- lists
 

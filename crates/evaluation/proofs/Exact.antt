@@ -15,7 +15,7 @@ use Rattle.sibson.proofs.Quote.{_/ₑ_, Cubicₑ, valueₑ, equal}
 use Rattle.readings.specs.Bounds.{listed}
 use Rattle.readings.specs.Reading.{rounded, level, tiltX, tiltY, bendXX, bendXY, bendYY}
 use Rattle.readings.proofs.Rounded.{rounded-≈}
-use Rattle.pieces.specs.Doubled.{halves}
+use Rattle.turnings.specs.Doubled.{halves}
 use Rattle.rows.specs.Row.{alongRow, atOffset, cubesOf}
 use Rattle.rows.proofs.Heights.{rₑ, sₑ, offset, rows}
 use Rattle.evaluation.specs.LowDegree.{scaledOf, linearAt, quadraticAt}

@@ -4,7 +4,7 @@ ghost use Prim.Native.Nat.{_*_};
 ghost use lib.ListN.{take};
 ghost use Rattle.sibson.specs.Cubic.{byR, byS};
 ghost use Rattle.readings.specs.Bounds.{largest, listed};
-ghost use Rattle.pieces.specs.Doubled.{halves, Sized};
+ghost use Rattle.turnings.specs.Doubled.{halves, Sized};
 ghost use Rattle.evaluation.specs.Pixels.{EachWithin};
 
 // Of a cubic.

@@ -8,7 +8,7 @@ ghost use Rattle.integers.specs.Within.{_within_};
 ghost use Rattle.integers.specs.Round.{round};
 ghost use Rattle.readings.specs.Bounds.{largest};
 ghost use Rattle.readings.specs.Reading.{level, tiltX, tiltY, bendXX, bendXY, bendYY};
-ghost use Rattle.pieces.specs.Doubled.{halves, Sized};
+ghost use Rattle.turnings.specs.Doubled.{halves, Sized};
 ghost use Rattle.evaluation.specs.Pixels.{EachWithin, cellOf, pointOf, Inside, Factor};
 ghost use Rattle.evaluation.specs.LowDegree.{scaledOf, linearAt, quadraticAt};
 use corners::lengths::cube;

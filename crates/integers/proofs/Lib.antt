@@ -13,3 +13,4 @@ pub mod Prepared
 mod Rest
 mod Constants
 mod Examples
+pub mod Parameters

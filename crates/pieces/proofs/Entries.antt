@@ -11,7 +11,7 @@ use Rattle.integers.proofs.Bounds.{is-within, within-+, within-*}
 use Rattle.sibson.specs.Element.{weights}
 use Rattle.readings.specs.Bounds.{largest}
 use Rattle.corners.specs.Held.{jetOf}
-use Rattle.pieces.specs.Doubled.{weight, partOf, JetWithin}
+use Rattle.pieces.specs.Parts.{weight, partOf, JetWithin}
 
 abbrev rowTest : ℕ → List ℤ → Bool
 rowTest N [] = true

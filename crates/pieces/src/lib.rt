@@ -2,10 +2,10 @@
 ghost use mathlib.Core.Path.{_≡_};
 ghost use Prim.Native.Nat.{_<_};
 ghost use Rattle.sibson.specs.Cubic.{Power};
-ghost use Rattle.sibson.specs.Element.{inOrder, column, weights, weighed, transposed, flipped, mirrored, onTop, onLeft, sibson};
+ghost use Rattle.sibson.specs.Element.{inOrder, column, weights, weighed, onTop, onLeft, sibson};
 ghost use Rattle.readings.specs.Bounds.{largest, AllWithin, listed};
 ghost use Rattle.corners.specs.Held.{jetOf, corners};
-ghost use Rattle.pieces.specs.Doubled.{JetWithin, weight, partOf, halves, Sized, pieceOf};
+ghost use Rattle.pieces.specs.Parts.{JetWithin, weight, partOf, pieceOf};
 
 pub enum Piece {
     Top,
@@ -37,8 +37,8 @@ pub fn coefficients(n: [[i64; 3]; 4], piece: Piece) -> [i64; 10]
 {
     match piece {
         Piece::Top => on_top(n),
-        Piece::Right => mirrored(on_left(corners::left_right(n))),
-        Piece::Bottom => flipped(on_top(corners::top_down(n))),
+        Piece::Right => turnings::mirrored(on_left(corners::left_right(n))),
+        Piece::Bottom => turnings::flipped(on_top(corners::top_down(n))),
         Piece::Left => on_left(n),
     }
 }
@@ -66,7 +66,7 @@ fn on_left(n: [[i64; 3]; 4]) -> [i64; 10]
     requires { ⌜ AllWithin largest (corners n) ⌝ }
     ensures { λ r. ⌜ r ≡ listed (onLeft (corners n)) ⌝ }
 {
-    transposed(on_top(corners::exchanged(n)))
+    turnings::transposed(on_top(corners::exchanged(n)))
 }
 
 // A column of the weights, each times its corner number, added: three for each corner.
@@ -91,38 +91,4 @@ fn weight(row: usize, power: usize) -> i64
     ensures { λ r. ⌜ r ≡ weight row power ⌝ }
 {
     WEIGHTS[row][power]
-}
-
-// The cubic at (s, r).
-fn transposed(k: [i64; 10]) -> [i64; 10]
-    ensures { λ r. ⌜ r ≡ listed (transposed (halves k)) ⌝ }
-{
-    [k[0], k[2], k[1], k[5], k[4], k[3], k[9], k[8], k[7], k[6]]
-}
-
-// The cubic at (r, 1 − s).
-fn flipped(k: [i64; 10]) -> [i64; 10]
-    requires { ⌜ Sized k ⌝ }
-    ensures { λ r. ⌜ r ≡ listed (flipped (halves k)) ⌝ }
-{
-    [
-        k[0] + k[2] + k[5] + k[9],
-        k[1] + k[4] + k[8],
-        -(k[2] + 2 * k[5] + 3 * k[9]),
-        k[3] + k[7],
-        -(k[4] + 2 * k[8]),
-        k[5] + 3 * k[9],
-        k[6],
-        -k[7],
-        k[8],
-        -k[9],
-    ]
-}
-
-// The cubic at (1 − r, s).
-fn mirrored(k: [i64; 10]) -> [i64; 10]
-    requires { ⌜ Sized k ⌝ }
-    ensures { λ r. ⌜ r ≡ listed (mirrored (halves k)) ⌝ }
-{
-    transposed(flipped(transposed(k)))
 }

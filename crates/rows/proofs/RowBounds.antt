@@ -12,7 +12,7 @@ use Rattle.sibson.specs.Cubic.{Cell, Cubic}
 use Rattle.readings.specs.Bounds.{largest, listed, size}
 use Rattle.rows.specs.Row.{down, alongRow, reach, InRow}
 use Rattle.corners.specs.Held.{Side, side, cell}
-use Rattle.pieces.specs.Doubled.{halves, Sized}
+use Rattle.turnings.specs.Doubled.{halves, Sized}
 use Rattle.corners.proofs.Sides.{length-within, square-within, cube-within, side-is}
 
 -- the first four

@@ -6,7 +6,7 @@ ghost use Prim.Native.Nat.{_*_, _≤_};
 ghost use lib.IntN.{pos};
 ghost use Rattle.readings.specs.Bounds.{largest, size};
 ghost use Rattle.corners.specs.Held.{Side, cell};
-ghost use Rattle.pieces.specs.Doubled.{halves, Sized};
+ghost use Rattle.turnings.specs.Doubled.{halves, Sized};
 ghost use Rattle.rows.specs.Row.{down, alongRow, atOffset, cubesOf, InRow};
 use corners::lengths::cube;
 use corners::lengths::length;

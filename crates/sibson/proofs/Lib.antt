@@ -11,7 +11,6 @@ pub mod SharedEdges
 pub mod Derivatives
 pub mod Turnings
 pub mod Linearity
-pub mod Printed
 pub mod Covers
 pub mod Rotation
 pub mod Blank

@@ -5,6 +5,5 @@ pub mod Conditions
 pub mod Element
 pub mod Theorems
 pub mod Sense
-pub mod Source
 pub mod Needed
 pub mod Examples

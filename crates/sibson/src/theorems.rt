@@ -3,7 +3,6 @@ ghost use mathlib.Core.Path.{_≡_};
 ghost use Rattle.sibson.specs.Theorems.{Uniqueness, Existence, Edges};
 ghost use Rattle.sibson.specs.Needed.{Needed};
 ghost use Rattle.sibson.specs.Sense.{FractionLaws, SameValues, Derivatives, Turnings, Linearity, Covering};
-ghost use Rattle.sibson.specs.Source.{Sources};
 ghost use Rattle.sibson.specs.Examples.{Examples};
 
 pub fn uniqueness() -> u64
@@ -62,12 +61,6 @@ pub fn linearity() -> u64
 
 pub fn covering() -> u64
     ensures { λ r. ⌜ (r ≡ 0) × Covering ⌝ }
-{
-    0
-}
-
-pub fn sources() -> u64
-    ensures { λ r. ⌜ (r ≡ 0) × Sources ⌝ }
 {
     0
 }

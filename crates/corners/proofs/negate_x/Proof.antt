@@ -5,7 +5,7 @@ use mir.Syntax.{w64}
 use Rattle.integers.proofs.Operand.{Operand, known, opposite, asks, gives}
 use Rattle.sibson.specs.Element.{negateX}
 use Rattle.corners.specs.Held.{jetOf, three}
-use Rattle.corners.proofs.Parameters.{kept}
+use Rattle.integers.proofs.Parameters.{kept}
 use Rattle.corners.proofs.negate_x.Statement.{statement}
 use Rattle.corners.proofs.negate_x.Tie as tie
 

@@ -8,7 +8,7 @@ use Rattle.integers.proofs.Operand.{Operand, known, returned, _⊠_, asks, give
 use Rattle.sibson.specs.Element.{cornerNumbers}
 use Rattle.corners.specs.Held.{jetOf, three, numbersOf, cell}
 use Rattle.corners.proofs.Sides.{length-within, side-is}
-use Rattle.corners.proofs.Parameters.{kept}
+use Rattle.integers.proofs.Parameters.{kept}
 use Rattle.corners.proofs.scaled.Statement.{statement}
 use Rattle.corners.proofs.scaled.Tie as tie
 

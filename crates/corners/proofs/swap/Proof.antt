@@ -3,7 +3,7 @@ use mathlib.Core.List.{[], _∷_}
 use lib.Dec.{lit<}
 use Rattle.sibson.specs.Element.{swap}
 use Rattle.corners.specs.Held.{jetOf, three}
-use Rattle.corners.proofs.Parameters.{kept}
+use Rattle.integers.proofs.Parameters.{kept}
 use Rattle.corners.proofs.swap.Statement.{statement}
 use Rattle.corners.proofs.swap.Tie as tie
 

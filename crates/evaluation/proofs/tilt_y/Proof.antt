@@ -10,7 +10,7 @@ use Rattle.integers.proofs.Operand.{Operand, returned, unchanged}
 use Rattle.sibson.specs.Cubic.{byS}
 use Rattle.readings.specs.Bounds.{largest, listed}
 use Rattle.corners.specs.Held.{cell}
-use Rattle.pieces.specs.Doubled.{halves}
+use Rattle.turnings.specs.Doubled.{halves}
 use Rattle.evaluation.specs.Pixels.{EachWithin, cellOf}
 use Rattle.evaluation.specs.LowDegree.{scaledOf, quadraticAt}
 use Rattle.corners.proofs.Sides.{square-within, cube-within, side-is}

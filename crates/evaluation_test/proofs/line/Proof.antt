@@ -1,8 +1,9 @@
 -- `evaluation_test::line` meets its contract: the coefficients of a piece are of the size that the readings ask for. Assumes nothing.
 use borrow.Author.Needs.{needs}
 use Rattle.corners.specs.Held.{corners}
-use Rattle.pieces.specs.Doubled.{Sized, pieceOf}
-use Rattle.pieces.proofs.Sizes.{piece-sized}
+use Rattle.turnings.specs.Doubled.{Sized}
+use Rattle.pieces.specs.Parts.{pieceOf}
+use Rattle.turnings.proofs.Sizes.{piece-sized}
 use Rattle.evaluation.specs.Pixels.{Inside}
 use Rattle.evaluation_test.proofs.line.Statement.{statement}
 use Rattle.evaluation_test.proofs.line.Tie as tie

@@ -5,9 +5,10 @@ use Rattle.sibson.specs.Piece.{top, left}
 use Rattle.sibson.specs.Element.{transposed, flipped, mirrored, topDown, leftRight, onTop, onLeft, sibson}
 use Rattle.readings.specs.Bounds.{listed}
 use Rattle.corners.specs.Held.{corners}
-use Rattle.pieces.specs.Doubled.{halves, pieceOf}
+use Rattle.turnings.specs.Doubled.{halves}
+use Rattle.pieces.specs.Parts.{pieceOf}
 use Rattle.corners.proofs.Arrays.{held, topDown-within, leftRight-within}
-use Rattle.pieces.proofs.Sizes.{piece-sized}
+use Rattle.turnings.proofs.Sizes.{piece-sized}
 use Rattle.pieces.proofs.coefficients.Statement.{statement}
 use Rattle.pieces.proofs.coefficients.Tie as tie
 

@@ -3,7 +3,7 @@ use mathlib.Core.Path.{_∙_}
 use borrow.Author.Needs.{needs}
 use Rattle.sibson.specs.Element.{transposed, exchanged, onTop, onLeft}
 use Rattle.readings.specs.Bounds.{listed}
-use Rattle.pieces.specs.Doubled.{halves}
+use Rattle.turnings.specs.Doubled.{halves}
 use Rattle.corners.proofs.Arrays.{held, exchanged-within}
 use Rattle.pieces.proofs.on_left.Statement.{statement}
 use Rattle.pieces.proofs.on_left.Tie as tie

@@ -4,7 +4,7 @@ use lib.Dec.{lit<}
 use mir.Syntax.{w64}
 use Rattle.integers.proofs.Operand.{Operand, known, stored, returned, _⊞_, _⊠_, asks, gives}
 use Rattle.corners.specs.Held.{jetOf}
-use Rattle.pieces.specs.Doubled.{partOf}
+use Rattle.pieces.specs.Parts.{partOf}
 use Rattle.pieces.proofs.Entries.{weight-within}
 use Rattle.pieces.proofs.part.Statement.{statement}
 use Rattle.pieces.proofs.part.Tie as tie

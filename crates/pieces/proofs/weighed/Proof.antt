@@ -12,7 +12,7 @@ use Rattle.sibson.specs.Piece.{Corner, leftTop, rightTop, leftBottom, rightBott
 use Rattle.sibson.specs.Element.{inOrder, column, weights, weighed}
 use Rattle.readings.specs.Bounds.{largest, place}
 use Rattle.corners.specs.Held.{jetOf, corners}
-use Rattle.pieces.specs.Doubled.{weight, partOf, JetWithin}
+use Rattle.pieces.specs.Parts.{weight, partOf, JetWithin}
 use Rattle.pieces.proofs.Entries.{part-within}
 use Rattle.pieces.proofs.weighed.Statement.{statement}
 use Rattle.pieces.proofs.weighed.Tie as tie

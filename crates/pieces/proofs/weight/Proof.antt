@@ -3,7 +3,7 @@ use borrow.Author.Needs.{needs}
 use mir.Syntax.{w64}
 use Rattle.integers.proofs.Operand.{known}
 use Rattle.sibson.specs.Element.{weights}
-use Rattle.pieces.specs.Doubled.{weight}
+use Rattle.pieces.specs.Parts.{weight}
 use Rattle.pieces.proofs.Entries.{weight-within}
 use Rattle.pieces.proofs.weight.Statement.{statement}
 use Rattle.pieces.proofs.weight.Tie as tie

@@ -12,10 +12,10 @@ use Rattle.readings.specs.Bounds.{largest, listed, size}
 use Rattle.integers.proofs.Bounds.{within-mono}
 use Rattle.integers.proofs.Operand.{Operand, known, returned, stored, _⊠_, asks, gives}
 use Rattle.corners.specs.Held.{Side, cell}
-use Rattle.pieces.specs.Doubled.{halves}
+use Rattle.turnings.specs.Doubled.{halves}
 use Rattle.rows.specs.Row.{down, alongRow}
 use Rattle.corners.proofs.Sides.{length-within, square-within, cube-within, side-is}
-use Rattle.pieces.proofs.Sizes.{sized-within}
+use Rattle.turnings.proofs.Sizes.{sized-within}
 use Rattle.rows.proofs.RowBounds.{down-within}
 use Rattle.rows.proofs.along_row.Statement.{statement}
 use Rattle.rows.proofs.along_row.Tie as tie

@@ -9,7 +9,7 @@ use Rattle.integers.proofs.Bounds.{is-within}
 use Rattle.integers.proofs.Operand.{Operand, known, returned, stored, _⊞_, _⊠_, asks, gives}
 use Rattle.rows.specs.Row.{down}
 use Rattle.corners.proofs.Sides.{length-within}
-use Rattle.pieces.proofs.Sizes.{in-size}
+use Rattle.turnings.proofs.Sizes.{in-size}
 use Rattle.rows.proofs.down.Statement.{statement}
 use Rattle.rows.proofs.down.Tie as tie
 

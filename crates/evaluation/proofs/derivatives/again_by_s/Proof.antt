@@ -7,7 +7,7 @@ use mir.Syntax.{w64}
 use Rattle.sibson.specs.Cubic.{byS}
 use Rattle.integers.proofs.Operand.{Operand, literal, known, _⊠_, asks, gives}
 use Rattle.readings.specs.Bounds.{listed}
-use Rattle.pieces.specs.Doubled.{halves}
+use Rattle.turnings.specs.Doubled.{halves}
 use Rattle.evaluation.proofs.derivatives.again_by_s.Statement.{statement}
 use Rattle.evaluation.proofs.derivatives.again_by_s.Tie as tie
 

@@ -6,8 +6,8 @@ use mir.Syntax.{w64}
 use Rattle.sibson.specs.Cubic.{Power, r¹, r², rs, r³, r²s, rs², byR}
 use Rattle.integers.proofs.Operand.{Operand, literal, known, _⊠_, asks, gives}
 use Rattle.readings.specs.Bounds.{listed}
-use Rattle.pieces.specs.Doubled.{halves}
-use Rattle.pieces.proofs.Sizes.{sized-within}
+use Rattle.turnings.specs.Doubled.{halves}
+use Rattle.turnings.proofs.Sizes.{sized-within}
 use Rattle.evaluation.proofs.derivatives.by_r.Statement.{statement}
 use Rattle.evaluation.proofs.derivatives.by_r.Tie as tie
 

@@ -6,8 +6,8 @@ use mir.Syntax.{w64}
 use Rattle.sibson.specs.Cubic.{Power, s¹, rs, s², r²s, rs², s³, byS}
 use Rattle.integers.proofs.Operand.{Operand, literal, known, _⊠_, asks, gives}
 use Rattle.readings.specs.Bounds.{listed}
-use Rattle.pieces.specs.Doubled.{halves}
-use Rattle.pieces.proofs.Sizes.{sized-within}
+use Rattle.turnings.specs.Doubled.{halves}
+use Rattle.turnings.proofs.Sizes.{sized-within}
 use Rattle.evaluation.proofs.derivatives.by_s.Statement.{statement}
 use Rattle.evaluation.proofs.derivatives.by_s.Tie as tie
 

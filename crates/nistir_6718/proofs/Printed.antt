@@ -2,17 +2,17 @@
 use mathlib.Core.Path.{_≡_, refl, _∙_, ap}
 use mathlib.Core.List.{List}
 use lib.IntN.{ℤ, pos}
 use Rattle.sibson.specs.Fraction.{_≈_, positive, complement}
 use Rattle.sibson.specs.Cubic.{Point, value}
 use Rattle.sibson.specs.Piece.{Piece, top, right, bottom, left}
 use Rattle.sibson.specs.Element.{CornerNumbers, inOrder, weights, weighed, halved, transposed, flipped, mirrored, swap, exchanged, onTop, onLeft, sibson}
-use Rattle.sibson.specs.Source.{formula, row, table, source, Sources}
+use Rattle.nistir_6718.specs.Source.{formula, row, table, source, Sources}
 use Rattle.integers.proofs.Polynomial.{Expr, #_, _⊗_}
 use Rattle.integers.proofs.Solve.{_≐_, same-sound, solve}
 use Rattle.integers.proofs.Order.{pos-inj}
 use Rattle.sibson.proofs.Quote.{complementₑ, Quotient, evaluated, fractionₑ, fraction}
 use Rattle.sibson.proofs.Evaluate.{numerator, cubes, by-numerator, numeratorₑ}
 use Rattle.sibson.proofs.QuoteElement.{halvedₑ, numbersₑ, elementₑ, sibson-is}
 
 -- ---- variables: 0 / 1 is r, 2 / 3 is s, from 4 on the twelve numbers
 

@@ -1,4 +1,4 @@
--- `pieces::flipped` meets its contract: sums of at most six coefficients, each within the size of all. Assumes nothing.
+-- `turnings::flipped` meets its contract: sums of at most six coefficients, each within the size of all. Assumes nothing.
 use mathlib.Core.List.{[], _∷_}
 use Prim.Native.Nat.{ℕ}
 use lib.Dec.{lit<}
@@ -7,10 +7,10 @@ use mir.Syntax.{w64}
 use Rattle.integers.proofs.Operand.{Operand, literal, known, stored, opposite, _⊞_, _⊠_, asks, gives}
 use Rattle.sibson.specs.Element.{flipped}
 use Rattle.readings.specs.Bounds.{listed}
-use Rattle.pieces.specs.Doubled.{halves}
-use Rattle.pieces.proofs.Sizes.{coefficient-within}
-use Rattle.pieces.proofs.flipped.Statement.{statement}
-use Rattle.pieces.proofs.flipped.Tie as tie
+use Rattle.turnings.specs.Doubled.{halves}
+use Rattle.turnings.proofs.Sizes.{coefficient-within}
+use Rattle.turnings.proofs.flipped.Statement.{statement}
+use Rattle.turnings.proofs.flipped.Tie as tie
 
 abbrev k : tie.Start → ℕ → Operand
 k s j = known w64 (coefficient-within (s .pre) j) tt

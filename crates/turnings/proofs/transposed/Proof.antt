@@ -1,12 +1,12 @@
--- `pieces::transposed` meets its contract. Assumes nothing.
+-- `turnings::transposed` meets its contract. Assumes nothing.
 use mathlib.Core.List.{[], _∷_}
 use lib.Dec.{lit<}
 use Rattle.sibson.specs.Element.{transposed}
 use Rattle.readings.specs.Bounds.{listed}
-use Rattle.pieces.specs.Doubled.{halves}
-use Rattle.corners.proofs.Parameters.{kept}
-use Rattle.pieces.proofs.transposed.Statement.{statement}
-use Rattle.pieces.proofs.transposed.Tie as tie
+use Rattle.turnings.specs.Doubled.{halves}
+use Rattle.integers.proofs.Parameters.{kept}
+use Rattle.turnings.proofs.transposed.Statement.{statement}
+use Rattle.turnings.proofs.transposed.Tie as tie
 
 returns : tie.Need-returns
 unfolding listed transposed halves

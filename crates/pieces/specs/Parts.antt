@@ -1,14 +1,12 @@
--- How the code holds a piece and its doubled coefficients, in the order of the powers. Assumes nothing.
+-- How the code holds a piece, and how it adds up a coefficient of piece 0 corner by corner. Assumes nothing.
 use mathlib.Core.List.{List, []}
-use Prim.Native.Nat.{ℕ, _+_, _*_, _≤_}
+use Prim.Native.Nat.{ℕ, _+_}
 use lib.IntN.{ℤ, pos, _+ℤ_, _*ℤ_}
 use lib.ListN.{getD}
 use Rattle.integers.specs.Within.{_within_}
-use Rattle.sibson.specs.Fraction.{positive}
-use Rattle.sibson.specs.Cubic.{Cubic, cubicOf, Jet}
+use Rattle.sibson.specs.Cubic.{Jet}
 use Rattle.sibson.specs.Piece.{Piece, top, right, bottom, left}
-use Rattle.sibson.specs.Element.{column, weights}
-use Rattle.readings.specs.Bounds.{largest, listed, size}
+use Rattle.sibson.specs.Element.{weights}
 use Rattle.corners.specs.Held.{jetOf}
 use Rattle.pieces.specs.declared.Piece as held
 
@@ -17,16 +15,6 @@ pieceOf held.the-variants.Top = top
 pieceOf held.the-variants.Right = right
 pieceOf held.the-variants.Bottom = bottom
 pieceOf held.the-variants.Left = left
-
--- the cubic whose doubled coefficients these are; one that is not listed is 0
-unfoldable pub halves : List ℤ → Cubic
-halves k = cubicOf (λ p. getD k (column p) (pos 0)) (positive 2 tt)
-
--- without their signs they add up to no more than those of a piece can
-pub record Sized (k : List ℤ) : Type 0 where
-  pub sum : size (listed (halves k)) ≤ 256 * largest
-
--- ---- a coefficient, corner by corner
 
 -- an entry of the weights
 unfoldable pub weight : ℕ → ℕ → ℤ

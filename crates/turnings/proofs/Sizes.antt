@@ -13,7 +13,7 @@ use Rattle.sibson.specs.Piece.{Piece}
 use Rattle.sibson.specs.Element.{CornerNumbers, column, transposed, sibson}
 use Rattle.readings.specs.Bounds.{largest, AllWithin, listed, size}
 use Rattle.readings.proofs.WeightSums.{weight-sums}
-use Rattle.pieces.specs.Doubled.{halves, Sized}
+use Rattle.turnings.specs.Doubled.{halves, Sized}
 
 pub in-size : (zs : List ℤ) (k : ℕ) → natAbs (getD zs k (pos 0)) ≤ size zs
 unfolding size

@@ -1,12 +1,12 @@
--- `pieces::mirrored` meets its contract. Assumes nothing.
+-- `turnings::mirrored` meets its contract. Assumes nothing.
 use mathlib.Core.Path.{_∙_}
 use borrow.Author.Needs.{needs}
 use Rattle.sibson.specs.Element.{transposed, flipped, mirrored}
 use Rattle.readings.specs.Bounds.{listed}
-use Rattle.pieces.specs.Doubled.{halves}
-use Rattle.pieces.proofs.Sizes.{transposed-sized}
-use Rattle.pieces.proofs.mirrored.Statement.{statement}
-use Rattle.pieces.proofs.mirrored.Tie as tie
+use Rattle.turnings.specs.Doubled.{halves}
+use Rattle.turnings.proofs.Sizes.{transposed-sized}
+use Rattle.turnings.proofs.mirrored.Statement.{statement}
+use Rattle.turnings.proofs.mirrored.Tie as tie
 
 flipped-requires : tie.Need-flipped-requires
 flipped-requires c κs = rw (c .transposed .ensures) (transposed-sized (c .before .pre))

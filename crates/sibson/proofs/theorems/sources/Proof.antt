@@ -1,8 +1,0 @@
--- `sibson::theorems::sources`: the set we read from is formulas 105 to 108. Assumes nothing.
-use mathlib.Core.Path.{refl}
-use Rattle.sibson.proofs.Printed.{sources}
-use Rattle.sibson.proofs.theorems.sources.Statement.{statement}
-use Rattle.sibson.proofs.theorems.sources.Tie as tie
-
-pub sources-spec : {M : Type 1} → statement M
-sources-spec = tie.close (tie.spec (λ c. (refl, sources)))
