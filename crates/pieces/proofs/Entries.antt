@@ -1,42 +1,54 @@
--- Every entry of the weights is within 6, by one test of the table; so a corner's part of a coefficient is within 18 times its numbers. Assumes nothing.
+-- Rows added to sums stay within bounds that grow by six times the number; a row of literals is within 6 by a computed test. Assumes nothing.
 use mathlib.Core.Bool.{Bool, true, _&&_}
 use mathlib.Core.List.{List, [], _∷_}
-use Prim.Native.Nat.{ℕ, zero, suc, _+_, _*_, zero-le}
+use Prim.Native.Nat.{ℕ, zero, suc, _+_, _*_, _≤_, zero-le}
 use lib.Dec.{T, leb, leb→le}
-use lib.IntN.{ℤ, pos, natAbs}
+use lib.IntN.{ℤ, pos, natAbs, _+ℤ_, _*ℤ_}
 use lib.ListN.{getD}
 use Rattle.integers.specs.Within.{_within_}
 use Rattle.integers.proofs.Deduce.{both}
-use Rattle.integers.proofs.Bounds.{is-within, within-+, within-*}
-use Rattle.sibson.specs.Element.{weights}
-use Rattle.readings.specs.Bounds.{largest}
-use Rattle.corners.specs.Held.{jetOf}
-use Rattle.pieces.specs.Parts.{weight, partOf, JetWithin}
+use Rattle.integers.proofs.Bounds.{is-within, within-mono, within-+, within-*}
+use Rattle.sibson.specs.Cubic.{Power, one, r¹, s¹, r², rs, s², r³, r²s, rs², s³, Jet}
+use Rattle.sibson.specs.Element.{column}
+use Rattle.readings.specs.Bounds.{largest, listed}
+use Rattle.pieces.specs.Parts.{TenWithin, JetWithin, added, withCorner}
 
 abbrev rowTest : ℕ → List ℤ → Bool
 rowTest N [] = true
 rowTest N (z ∷ zs) = leb (natAbs z) N && rowTest N zs
-
-abbrev tableTest : ℕ → List (List ℤ) → Bool
-tableTest N [] = true
-tableTest N (row ∷ rows) = rowTest N row && tableTest N rows
 
 in-row : (N : ℕ) (zs : List ℤ) → T (rowTest N zs) → (k : ℕ) → getD zs k (pos 0) within N
 in-row N [] t k = is-within (pos 0) zero-le
 in-row N (z ∷ zs) t zero = is-within z (leb→le (natAbs z) N (both (leb (natAbs z) N) (rowTest N zs) t .0))
 in-row N (z ∷ zs) t (suc k) = in-row N zs (both (leb (natAbs z) N) (rowTest N zs) t .1) k
 
-in-table : (N : ℕ) (rows : List (List ℤ)) → T (tableTest N rows) → (j k : ℕ) → getD (getD rows j []) k (pos 0) within N
-in-table N [] t j k = is-within (pos 0) zero-le
-in-table N (row ∷ rows) t zero k = in-row N row (both (rowTest N row) (tableTest N rows) t .0) k
-in-table N (row ∷ rows) t (suc j) k = in-table N rows (both (rowTest N row) (tableTest N rows) t .1) j k
+-- a row of literals
+pub ten-within : (N : ℕ) (zs : List ℤ) → T (rowTest N zs) → TenWithin N zs
+ten-within N zs t = record { each = λ p. in-row N zs t (column p) }
 
-pub weight-within : (row power : ℕ) → weight row power within 6
-unfolding weight weights
-weight-within row power = in-table 6 weights tt row power
+pub more : {M N : ℕ} {zs : List ℤ} → TenWithin M zs → M ≤ N → TenWithin N zs
+more h k = record { each = λ p. within-mono (h .each p) k }
 
-pub part-within : (row power : ℕ) (corner : List ℤ) → JetWithin largest (jetOf corner) → partOf row power corner within (18 * largest)
-unfolding partOf
-part-within row power corner h =
-    within-+ (within-* (weight-within row power) (h .height))
-    (within-+ (within-* (weight-within (row + 1) power) (h .xSlope)) (within-* (weight-within (row + 2) power) (h .ySlope)))
+pub added-within : {M : ℕ} {sums row : List ℤ} {n : ℤ} → TenWithin M sums → TenWithin 6 row → n within largest → TenWithin (6 * largest + M) (added sums row n)
+unfolding added listed
+added-within {M} {sums} {row} {n} h k l = record { each = at }
+  where
+    sum : (p : Power) → (getD row (column p) (pos 0) *ℤ n +ℤ getD sums (column p) (pos 0)) within (6 * largest + M)
+    sum p = within-+ (within-* (k .each p) l) (h .each p)
+
+    at : (p : Power) → getD (added sums row n) (column p) (pos 0) within (6 * largest + M)
+    at one = sum one
+    at r¹ = sum r¹
+    at s¹ = sum s¹
+    at r² = sum r²
+    at rs = sum rs
+    at s² = sum s²
+    at r³ = sum r³
+    at r²s = sum r²s
+    at rs² = sum rs²
+    at s³ = sum s³
+
+pub corner-within : {M : ℕ} {sums height xSlope ySlope : List ℤ} {j : Jet ℤ} →
+    TenWithin M sums → JetWithin largest j → TenWithin 6 height → TenWithin 6 xSlope → TenWithin 6 ySlope → TenWithin (6 * largest + (6 * largest + (6 * largest + M))) (withCorner sums j height xSlope ySlope)
+unfolding withCorner
+corner-within h k u v w = added-within (added-within (added-within h w (k .ySlope)) v (k .xSlope)) u (k .height)

@@ -1,13 +1,14 @@
--- How the code holds a piece, and how it adds up a coefficient of piece 0 corner by corner. Assumes nothing.
-use mathlib.Core.List.{List, []}
-use Prim.Native.Nat.{ℕ, _+_}
+-- How the code holds a piece, and how it adds up the coefficients of piece 0, row by row of the weights. Assumes nothing.
+use mathlib.Core.List.{List}
+use Prim.Native.Nat.{ℕ}
 use lib.IntN.{ℤ, pos, _+ℤ_, _*ℤ_}
 use lib.ListN.{getD}
 use Rattle.integers.specs.Within.{_within_}
-use Rattle.sibson.specs.Cubic.{Jet}
+use Rattle.sibson.specs.Fraction.{positive}
+use Rattle.sibson.specs.Cubic.{Power, cubicOf, Jet}
 use Rattle.sibson.specs.Piece.{Piece, top, right, bottom, left}
-use Rattle.sibson.specs.Element.{weights}
-use Rattle.corners.specs.Held.{jetOf}
+use Rattle.sibson.specs.Element.{column}
+use Rattle.readings.specs.Bounds.{listed}
 use Rattle.pieces.specs.declared.Piece as held
 
 unfoldable pub pieceOf : held.Piece → Piece
@@ -16,14 +17,19 @@ pieceOf held.the-variants.Right = right
 pieceOf held.the-variants.Bottom = bottom
 pieceOf held.the-variants.Left = left
 
--- an entry of the weights
-unfoldable pub weight : ℕ → ℕ → ℤ
-weight row power = getD (getD weights row []) power (pos 0)
+-- ---- piece 0, row by row
 
--- one corner's part: its three weights, the first of them in a given row, times its numbers
-unfoldable pub partOf : ℕ → ℕ → List ℤ → ℤ
-partOf row power corner = let j = jetOf corner in
-    weight row power *ℤ j .height +ℤ (weight (row + 1) power *ℤ j .xSlope +ℤ weight (row + 2) power *ℤ j .ySlope)
+-- a row of ten times a number, added to sums
+unfoldable pub added : List ℤ → List ℤ → ℤ → List ℤ
+added sums row n = listed (cubicOf (λ p. getD row (column p) (pos 0) *ℤ n +ℤ getD sums (column p) (pos 0)) (positive 2 tt))
+
+-- the three rows of a corner
+unfoldable pub withCorner : List ℤ → Jet ℤ → List ℤ → List ℤ → List ℤ → List ℤ
+withCorner sums j height xSlope ySlope = added (added (added sums ySlope (j .ySlope)) xSlope (j .xSlope)) height (j .height)
+
+-- ten numbers are within N
+pub record TenWithin (N : ℕ) (zs : List ℤ) : Type 0 where
+  pub each : (p : Power) → getD zs (column p) (pos 0) within N
 
 -- a corner's numbers are within N
 pub record JetWithin (N : ℕ) (j : Jet ℤ) : Type 0 where

@@ -1,11 +1,11 @@
 // The ten doubled coefficients of a piece in the cell's own r and s, in the order 1, r, s, r², rs, s², r³, r²s, rs², s³.
 ghost use mathlib.Core.Path.{_≡_};
-ghost use Prim.Native.Nat.{_<_};
-ghost use Rattle.sibson.specs.Cubic.{Power};
-ghost use Rattle.sibson.specs.Element.{inOrder, column, weights, weighed, onTop, onLeft, sibson};
+ghost use Prim.Native.Nat.{_*_};
+ghost use Rattle.integers.specs.Within.{_within_};
+ghost use Rattle.sibson.specs.Element.{onTop, onLeft, sibson};
 ghost use Rattle.readings.specs.Bounds.{largest, AllWithin, listed};
 ghost use Rattle.corners.specs.Held.{jetOf, corners};
-ghost use Rattle.pieces.specs.Parts.{JetWithin, weight, partOf, pieceOf};
+ghost use Rattle.pieces.specs.Parts.{TenWithin, JetWithin, added, withCorner, pieceOf};
 
 pub enum Piece {
     Top,
@@ -48,18 +48,10 @@ fn on_top(n: [[i64; 3]; 4]) -> [i64; 10]
     requires { ⌜ AllWithin largest (corners n) ⌝ }
     ensures { λ r. ⌜ r ≡ listed (onTop (corners n)) ⌝ }
 {
-    [
-        weighed(n, 0),
-        weighed(n, 1),
-        weighed(n, 2),
-        weighed(n, 3),
-        weighed(n, 4),
-        weighed(n, 5),
-        weighed(n, 6),
-        weighed(n, 7),
-        weighed(n, 8),
-        weighed(n, 9),
-    ]
+    let last = with_corner([0; 10], n[3], WEIGHTS[9], WEIGHTS[10], WEIGHTS[11]);
+    let bottom = with_corner(last, n[2], WEIGHTS[6], WEIGHTS[7], WEIGHTS[8]);
+    let three = with_corner(bottom, n[1], WEIGHTS[3], WEIGHTS[4], WEIGHTS[5]);
+    with_corner(three, n[0], WEIGHTS[0], WEIGHTS[1], WEIGHTS[2])
 }
 
 fn on_left(n: [[i64; 3]; 4]) -> [i64; 10]
@@ -69,26 +61,39 @@ fn on_left(n: [[i64; 3]; 4]) -> [i64; 10]
     turnings::transposed(on_top(corners::exchanged(n)))
 }
 
-// A column of the weights, each times its corner number, added: three for each corner.
-fn weighed(n: [[i64; 3]; 4], power: usize) -> i64
-    requires { ⌜ AllWithin largest (corners n) × (power < 10) ⌝ }
-    ensures { λ r. ⌜ ((p : Power) → power ≡ column p → r ≡ weighed weights (inOrder (corners n)) p) ⌝ }
+// The weights of a corner's height and slopes, each row times its number, added to sums. Rows are taken from the table by literal indices, so that no table is built.
+fn with_corner(
+    sums: [i64; 10],
+    corner: [i64; 3],
+    height: [i64; 10],
+    x_slope: [i64; 10],
+    y_slope: [i64; 10],
+) -> [i64; 10]
+    requires { ⌜ TenWithin (54 * largest) sums × JetWithin largest (jetOf corner) × TenWithin 6 height × TenWithin 6 «x_slope» × TenWithin 6 «y_slope» ⌝ }
+    ensures { λ r. ⌜ r ≡ withCorner sums (jetOf corner) height «x_slope» «y_slope» ⌝ }
 {
-    part(n[0], 0, power) + (part(n[1], 3, power) + (part(n[2], 6, power) + part(n[3], 9, power)))
+    added(
+        added(added(sums, y_slope, corner[2]), x_slope, corner[1]),
+        height,
+        corner[0],
+    )
 }
 
-// The part of one corner, whose rows start at `row`.
-fn part(corner: [i64; 3], row: usize, power: usize) -> i64
-    requires { ⌜ JetWithin largest (jetOf corner) × (row < 10) × (power < 10) ⌝ }
-    ensures { λ r. ⌜ r ≡ partOf row power corner ⌝ }
+// A row times a number, added to sums.
+fn added(sums: [i64; 10], row: [i64; 10], n: i64) -> [i64; 10]
+    requires { ⌜ TenWithin (66 * largest) sums × TenWithin 6 row × (n within largest) ⌝ }
+    ensures { λ r. ⌜ r ≡ added sums row n ⌝ }
 {
-    weight(row, power) * corner[0]
-        + (weight(row + 1, power) * corner[1] + weight(row + 2, power) * corner[2])
-}
-
-fn weight(row: usize, power: usize) -> i64
-    requires { ⌜ (row < 12) × (power < 10) ⌝ }
-    ensures { λ r. ⌜ r ≡ weight row power ⌝ }
-{
-    WEIGHTS[row][power]
+    [
+        row[0] * n + sums[0],
+        row[1] * n + sums[1],
+        row[2] * n + sums[2],
+        row[3] * n + sums[3],
+        row[4] * n + sums[4],
+        row[5] * n + sums[5],
+        row[6] * n + sums[6],
+        row[7] * n + sums[7],
+        row[8] * n + sums[8],
+        row[9] * n + sums[9],
+    ]
 }
