@@ -1,4 +1,4 @@
--- Bounds of derivatives, and of polynomials of degree 1 and 2 at a pixel. Assumes nothing.
+-- Bounds of coefficients, of derivatives, and of polynomials of degree 1 and 2 at a pixel. Assumes nothing.
 use mathlib.Core.Path.{sym, subst}
 use mathlib.Core.List.{List, [], _∷_}
 use Prim.Native.Nat.{ℕ, zero, suc, _*_, _^_, _≤_}
@@ -7,8 +7,10 @@ use native.Mathlib.Omega.{arith}
 use lib.Dec.{lit≤}
 use lib.ListN.{getD, take}
 use lib.IntN.{ℤ, pos, _*ℤ_}
+use mir.Syntax.{w64}
 use Rattle.integers.specs.Within.{_within_}
 use Rattle.integers.proofs.Bounds.{is-within, within-self, within-mono, within-+, within-*}
+use Rattle.integers.proofs.Operand.{Operand, known}
 use Rattle.sibson.specs.Cubic.{Power, r¹, s¹, r², rs, s², r³, r²s, rs², s³, byR, byS}
 use Rattle.readings.specs.Bounds.{largest, listed}
 use Rattle.corners.specs.Held.{side, cell}
@@ -37,6 +39,10 @@ _and_ {N} {z} {zs} h k = record { each = at }
 abbrev S : ℕ
 S = 256 * largest
 
+-- the coefficient of a power, as the machine reads it
+abbrev pub k-at : {k : List ℤ} → Sized k → Power → Operand
+k-at h p = known w64 (sized-within h p) tt
+
 once : {z : ℤ} → z within S → z within (3 * S)
 once h = within-mono h (lit≤ tt)
 
@@ -53,19 +59,20 @@ unfolding byS listed halves
 by-s-each h = once (sized-within h s¹) and once (sized-within h rs) and times 2 (lit≤ tt) (sized-within h s²) and once (sized-within h r²s) and
     times 2 (lit≤ tt) (sized-within h rs²) and times 3 (lit≤ tt) (sized-within h s³) and none
 
-twice : {z : ℤ} → z within (3 * S) → (pos 2 *ℤ z) within (6 * S)
-twice h = within-* (within-self (pos 2)) h
+double : {z : ℤ} → z within (3 * S) → (pos 2 *ℤ z) within (6 * S)
+double h = within-* (within-self (pos 2)) h
 
-kept : {z : ℤ} → z within (3 * S) → z within (6 * S)
-kept h = within-mono h (lit≤ tt)
-
-pub again-by-r-each : {c : List ℤ} → EachWithin (3 * S) c → EachWithin (6 * S) (take 3 (listed (byR (halves c))))
+pub by-rr-each : {k : List ℤ} → Sized k → EachWithin (6 * S) (take 3 (listed (byR (byR (halves k)))))
 unfolding byR listed halves
-again-by-r-each h = kept (h .each 1) and twice (h .each 3) and kept (h .each 4) and none
+by-rr-each h = double (once (sized-within h r²)) and double (times 3 (lit≤ tt) (sized-within h r³)) and double (once (sized-within h r²s)) and none
 
-pub again-by-s-each : {c : List ℤ} → EachWithin (3 * S) c → EachWithin (6 * S) (take 3 (listed (byS (halves c))))
+pub by-rs-each : {k : List ℤ} → Sized k → EachWithin (6 * S) (take 3 (listed (byS (byR (halves k)))))
+unfolding byR byS listed halves
+by-rs-each h = within-mono (sized-within h rs) (lit≤ tt) and double (once (sized-within h r²s)) and double (once (sized-within h rs²)) and none
+
+pub by-ss-each : {k : List ℤ} → Sized k → EachWithin (6 * S) (take 3 (listed (byS (byS (halves k)))))
 unfolding byS listed halves
-again-by-s-each h = kept (h .each 2) and kept (h .each 4) and twice (h .each 5) and none
+by-ss-each h = double (once (sized-within h s²)) and double (once (sized-within h rs²)) and double (times 3 (lit≤ tt) (sized-within h s³)) and none
 
 -- ---- at a pixel
 

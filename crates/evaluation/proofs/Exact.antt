@@ -1,23 +1,20 @@
--- Exact readings over one denominator, rounded: the level along a row, slopes as polynomials of degree 2, second derivatives of degree 1. Assumes nothing.
-use mathlib.Core.Path.{_≡_, _∙_, ap}
+-- Slopes and second derivatives over one denominator, rounded: polynomials of degree 2 and 1. Assumes nothing.
+use mathlib.Core.Path.{_≡_}
 use mathlib.Core.List.{List, [], _∷_}
 use Prim.Native.Nat.{ℕ, _*_}
-use native.Mathlib.Nat.{one-mul}
 use lib.ListN.{getD, take}
 use lib.IntN.{ℤ, pos, _*ℤ_}
 use Rattle.integers.specs.Round.{round}
 use Rattle.integers.proofs.Polynomial.{Expr, var, #_, _⊕_, _⊗_}
 use Rattle.integers.proofs.Solve.{_≐_, solve}
-use Rattle.sibson.specs.Fraction.{Positive, ℚ, _≈_, positive, _*⁺_, whole, _·ℚ_, _÷_}
+use Rattle.sibson.specs.Fraction.{Positive, _≈_, positive, _*⁺_, whole, _·ℚ_, _÷_}
 use Rattle.sibson.specs.Cubic.{Cell, pixel, value, byR, byS, jet, bend}
 use Rattle.sibson.proofs.Fractions.{≈-trans, ≈-÷, ≈-·}
 use Rattle.sibson.proofs.Quote.{_/ₑ_, Cubicₑ, valueₑ, equal}
 use Rattle.readings.specs.Bounds.{listed}
-use Rattle.readings.specs.Reading.{rounded, level, tiltX, tiltY, bendXX, bendXY, bendYY}
-use Rattle.readings.proofs.Rounded.{rounded-≈}
+use Rattle.readings.specs.Reading.{tiltX, tiltY, bendXX, bendXY, bendYY}
 use Rattle.turnings.specs.Doubled.{halves}
-use Rattle.rows.specs.Row.{alongRow, atOffset, cubesOf}
-use Rattle.rows.proofs.Heights.{rₑ, sₑ, offset, rows}
+use Rattle.rows.proofs.Heights.{rₑ, sₑ, offset, rounded-over}
 use Rattle.evaluation.specs.LowDegree.{scaledOf, linearAt, quadraticAt}
 
 -- ---- degrees 1 and 2
@@ -63,10 +60,6 @@ module _ (C : Cell) (a b : ℕ) where
 
 -- ---- the readings, rounded
 
-rounded-over : {x : ℚ} (n : ℤ) (d : Positive) → x ≈ whole n ÷ d → rounded x ≡ round n (d .number)
-unfolding rounded
-rounded-over n d e = rounded-≈ e ∙ ap (round n) (one-mul (d .number))
-
 module _ (C : Cell) (k : List ℤ) (a b : ℕ) where
   abbrev k-at : ℕ → ℤ
   k-at i = getD k i (pos 0)
@@ -82,10 +75,6 @@ module _ (C : Cell) (k : List ℤ) (a b : ℕ) where
 
   abbrev h : ℕ
   h = H .number
-
-  pub level-is : level C (halves k) (pixel C a b) ≡ round (atOffset (alongRow C (halves k) b) a) (2 * cubesOf C .number)
-  unfolding level jet cubesOf halves
-  level-is = rounded-over (atOffset (alongRow C (halves k) b) a) (positive 2 tt *⁺ cubesOf C) (rows .heights C (halves k) a b)
 
   pub tilt-x-is : tiltX C (halves k) (pixel C a b) ≡ round (quadraticAt (take 6 (listed (byR (halves k)))) (scaledOf C a b)) (2 * (w * w * w * (h * h)))
   unfolding tiltX jet byR listed halves
@@ -104,13 +93,13 @@ module _ (C : Cell) (k : List ℤ) (a b : ℕ) where
       (record { crossed = solve 3 (λ n w h. n ⊗ (# 1 ⊗ (# 2 ⊗ (w ⊗ w ⊗ (h ⊗ h ⊗ h)))) ≐ n ⊗ (# 1 ⊗ (# 2 ⊗ (w ⊗ w ⊗ (h ⊗ h))) ⊗ h)) tt n (pos w) (pos h) }))
 
   abbrev xx : List ℤ
-  xx = take 3 (listed (byR (halves (take 6 (listed (byR (halves k)))))))
+  xx = take 3 (listed (byR (byR (halves k))))
 
   abbrev xy : List ℤ
-  xy = take 3 (listed (byS (halves (take 6 (listed (byR (halves k)))))))
+  xy = take 3 (listed (byS (byR (halves k))))
 
   abbrev yy : List ℤ
-  yy = take 3 (listed (byS (halves (take 6 (listed (byS (halves k)))))))
+  yy = take 3 (listed (byS (byS (halves k))))
 
   pub bend-xx-is : bendXX C (halves k) (pixel C a b) ≡ round (pos 64 *ℤ linearAt xx (scaledOf C a b)) (2 * (w * w * w * h))
   unfolding bendXX bend byR listed halves

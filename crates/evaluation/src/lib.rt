@@ -14,10 +14,11 @@ ghost use Rattle.evaluation.specs.LowDegree.{scaledOf, linearAt, quadrat
 use corners::lengths::cube;
 use corners::lengths::length;
 use corners::lengths::square;
-use derivatives::again_by_r;
-use derivatives::again_by_s;
 use derivatives::by_r;
+use derivatives::by_rr;
+use derivatives::by_rs;
 use derivatives::by_s;
+use derivatives::by_ss;
 
 // The pixel a and b pixels from the left and the top edge of a cell.
 pub struct Pixel {
@@ -54,24 +55,24 @@ pub fn bend_xx(k: [i64; 10], p: Pixel) -> i64
     requires { ⌜ Sized k × Inside p ⌝ }
     ensures { λ r. ⌜ r ≡ bendXX (cellOf p) (halves k) (pointOf p) ⌝ }
 {
-    curvature(again_by_r(by_r(k)), p, cube(p.width), length(p.height))
+    curvature(by_rr(k), p, cube(p.width), length(p.height))
 }
 
 pub fn bend_xy(k: [i64; 10], p: Pixel) -> i64
     requires { ⌜ Sized k × Inside p ⌝ }
     ensures { λ r. ⌜ r ≡ bendXY (cellOf p) (halves k) (pointOf p) ⌝ }
 {
-    curvature(again_by_s(by_r(k)), p, square(p.width), square(p.height))
+    curvature(by_rs(k), p, square(p.width), square(p.height))
 }
 
 pub fn bend_yy(k: [i64; 10], p: Pixel) -> i64
     requires { ⌜ Sized k × Inside p ⌝ }
     ensures { λ r. ⌜ r ≡ bendYY (cellOf p) (halves k) (pointOf p) ⌝ }
 {
-    curvature(again_by_s(by_s(k)), p, length(p.width), cube(p.height))
+    curvature(by_ss(k), p, length(p.width), cube(p.height))
 }
 
-// The slope with these doubled coefficients, over x y in place of W² H².
+// The polynomial of degree 2 with these doubled coefficients is 2 W² H² times the derivative; over 2 x y, where x y is W² H² times W or H, it is the slope.
 fn slope(c: [i64; 6], p: Pixel, x: i64, y: i64) -> i64
     requires { ⌜ EachWithin (3 * (256 * largest)) c × Inside p × Factor x × Factor y ⌝ }
     ensures { λ r. ⌜ r ≡ round (quadraticAt c (scaledOf (cellOf p) (p .a) (p .b))) (2 * (natAbs x * natAbs y)) ⌝ }
@@ -79,7 +80,8 @@ fn slope(c: [i64; 6], p: Pixel, x: i64, y: i64) -> i64
     over(quadratic(c, scaled(p)), x, y)
 }
 
-// The second derivative with these doubled coefficients, in 1/64, over x y in place of W H.
+// The polynomial of degree 1 with these doubled coefficients is 2 W H times the second derivative; over 2 x y, where x y is W H times W², W H or H², it is
+// the bend, counted in 1/64.
 fn curvature(c: [i64; 3], p: Pixel, x: i64, y: i64) -> i64
     requires { ⌜ EachWithin (6 * (256 * largest)) c × Inside p × Factor x × Factor y ⌝ }
     ensures { λ r. ⌜ r ≡ round (pos 64 *ℤ linearAt c (scaledOf (cellOf p) (p .a) (p .b))) (2 * (natAbs x * natAbs y)) ⌝ }

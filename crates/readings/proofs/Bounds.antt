@@ -1,12 +1,13 @@
 -- The bounds of the readings. Assumes nothing.
 use mathlib.Core.Path.{_≡_, ap}
-use Prim.Native.Nat.{_*_, _^_, _≤_, _<_}
+use Prim.Native.Nat.{ℕ, _*_, _^_, _≤_, _<_}
 use native.Mathlib.Nat.{lt-of-le-of-lt}
 use native.Mathlib.Omega.{arith}
 use lib.Dec.{lit<}
 use lib.IntN.{pos, natAbs}
-use Rattle.sibson.specs.Fraction.{Positive, positive, _·ℚ_, _÷_}
-use Rattle.sibson.specs.Cubic.{Cell, Point, Cubic, value, byR, byS, jet, bend}
+use Rattle.integers.proofs.Order.{≤→≤ℤ}
+use Rattle.sibson.specs.Fraction.{Positive, _≤ℚ_, positive, whole, _·ℚ_, _÷_}
+use Rattle.sibson.specs.Cubic.{Cell, Point, pixel, Cubic, value, byR, byS, jet, bend}
 use Rattle.sibson.specs.Piece.{Piece, InCell}
 use Rattle.sibson.specs.Element.{CornerNumbers, sibson}
 use Rattle.sibson.proofs.Covers.{covering}
@@ -18,6 +19,18 @@ use Rattle.readings.proofs.WeightSums.{coefficients}
 use Rattle.readings.proofs.Parts.{divisor-is}
 use Rattle.readings.proofs.HeightBounds.{heights}
 use Rattle.readings.proofs.SlopeBounds.{cell-within, size-byR, size-byS, size-byR-byR, size-byS-byR, size-byS-byS}
+
+-- 0 ≤ a/n
+not-below : (a : ℕ) (n : Positive) → whole (pos 0) ≤ℚ whole (pos a) ÷ n
+not-below a n = record { crossed = ≤→≤ℤ (omega arith) }
+
+pixel-in : (C : Cell) (a b : ℕ) → a ≤ C .W .number → b ≤ C .H .number → InCell (pixel C a b)
+pixel-in C a b h l = record {
+  fromLeft = not-below a (C .W);
+  toRight = at-most a 1 (C .W) (omega arith);
+  fromTop = not-below b (C .H);
+  toBottom = at-most b 1 (C .H) (omega arith);
+}
 
 levels : (C : Cell) (n : CornerNumbers) → AllWithin largest n → (k : Piece) (P : Point) → On k P → natAbs (level C (sibson n k) P) < 2 ^ 20
 unfolding level jet
@@ -42,7 +55,7 @@ two n k = ap (λ d. d .number) (divisor-is n k)
 pub bounds : Bounds
 unfolding tiltX tiltY bendXX bendXY bendYY jet bend byR byS
 bounds = record {
-  everywhere = λ P c. record { inCell = c; inTriangle = covering .covers P };
+  pixels = λ C a b h l. record { inCell = pixel-in C a b h l; inTriangle = covering .covers (pixel C a b) };
   heights = heights;
   levels = levels;
   tiltsX = λ C n h k P c. let f = sibson n k in tilt-of n h k P c (byR f) (two n k) (size-byR f) (C .W);

@@ -127,7 +127,7 @@ share c k P o =
       value-is = subst (λ z. value (weightOf c k) P ≈ overCubes z q) is-n (value-sibson (only c unitHeight) k (g .point));
       most = ≤ℤ→≤ (subst₃ (λ z a b. (z +ℤ a *ℤ a *ℤ a +ℤ b *ℤ b *ℤ b) ≤ℤ pos (2 * cube q .number)) is-n is-x is-y (short k c (g .u) (g .v) (g .w)));
       there = λ no-x no-y. let e = arrived c k (g .u) (g .v) (g .w) (g .above) (is-x ∙ ap pos no-x) (is-y ∙ ap pos no-y) in
-          record { rs = ≈-trans (g .point .rs) (e .rs); ss = ≈-trans (g .point .ss) (e .ss) };
+          record { across = ≈-trans (g .point .rs) (e .rs); down = ≈-trans (g .point .ss) (e .ss) };
     }
 
 least : (c : Corner) (k : Piece) (P : Point) → On k P → whole (pos 0) ≤ℚ value (weightOf c k) P

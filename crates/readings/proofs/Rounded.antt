@@ -14,27 +14,37 @@ use Rattle.integers.proofs.Deduce.{_·_, _⊨_, deduce}
 use Rattle.integers.proofs.Order.{≤ℤ-antisym}
 use Rattle.integers.proofs.Bounds.{within-lower, within-upper, within-of-range}
 use Rattle.integers.proofs.Rounding.{rounding-laws}
-use Rattle.sibson.specs.Fraction.{ℚ, _≈_, _≤ℚ_, whole, _·ℚ_}
+use Rattle.sibson.specs.Fraction.{ℚ, _≈_, _≤ℚ_, whole, half, _-ℚ_, _·ℚ_}
 use Rattle.sibson.proofs.Fractions.{≈-sym, ≤-of-≈, ≤-trans}
-use Rattle.readings.specs.Reading.{rounded, _withinℚ_, HalfUnit}
+use Rattle.readings.specs.Reading.{rounded, level, tiltX, tiltY, bendXX, bendXY, bendYY, _withinℚ_, HalfUnit}
 
-pub half-unit : HalfUnit
+distances : (x : ℚ) → whole (rounded x) -ℚ x withinℚ half
 unfolding rounded
-half-unit = record {
-  distances = λ x. let n = x .numerator in let d = x .denominator in let h = rounding-laws .half-unit n (d .number) (d .above) in record {
-    lower = record {
-      crossed = deduce 3 (λ q n d. (# 1 · (⊖ d ≼ # 2 ⊗ (q ⊗ d ⊝ n))) ∷ [] ⊨ ⊖ # 1 ⊗ # 1 ⊗ (# 1 ⊗ d) ≼ (q ⊗ d ⊕ ⊖ # 1 ⊗ n ⊗ # 1) ⊗ (# 1 ⊗ # 2)) tt
-          (rounded x) n (pos (d .number)) (within-lower h);
-    };
-    upper = record {
-      crossed = deduce 3 (λ q n d. (# 1 · (# 2 ⊗ (q ⊗ d ⊝ n) ≼ d)) ∷ [] ⊨ (q ⊗ d ⊕ ⊖ # 1 ⊗ n ⊗ # 1) ⊗ (# 1 ⊗ # 2) ≼ # 1 ⊗ (# 1 ⊗ d)) tt
-          (rounded x) n (pos (d .number)) (within-upper h);
-    };
+distances x = let n = x .numerator in let d = x .denominator in let h = rounding-laws .half-unit n (d .number) (d .above) in record {
+  lower = record {
+    crossed = deduce 3 (λ q n d. (# 1 · (⊖ d ≼ # 2 ⊗ (q ⊗ d ⊝ n))) ∷ [] ⊨ ⊖ # 1 ⊗ # 1 ⊗ (# 1 ⊗ d) ≼ (q ⊗ d ⊕ ⊖ # 1 ⊗ n ⊗ # 1) ⊗ (# 1 ⊗ # 2)) tt
+        (rounded x) n (pos (d .number)) (within-lower h);
+  };
+  upper = record {
+    crossed = deduce 3 (λ q n d. (# 1 · (# 2 ⊗ (q ⊗ d ⊝ n) ≼ d)) ∷ [] ⊨ (q ⊗ d ⊕ ⊖ # 1 ⊗ n ⊗ # 1) ⊗ (# 1 ⊗ # 2) ≼ # 1 ⊗ (# 1 ⊗ d)) tt
+        (rounded x) n (pos (d .number)) (within-upper h);
   };
 }
 
+pub half-unit : HalfUnit
+unfolding level tiltX tiltY bendXX bendXY bendYY
+half-unit = record {
+  distances = distances;
+  levels = λ C f P. distances _;
+  tiltsX = λ C f P. distances _;
+  tiltsY = λ C f P. distances _;
+  bendsXX = λ C f P. distances _;
+  bendsXY = λ C f P. distances _;
+  bendsYY = λ C f P. distances _;
+}
+
 -- both over the product of the denominators
-rounded-≤ : {x y : ℚ} → x ≤ℚ y → rounded x ≤ℤ rounded y
+pub rounded-≤ : {x y : ℚ} → x ≤ℚ y → rounded x ≤ℤ rounded y
 unfolding rounded
 rounded-≤ {x} {y} h = let p = x .denominator in let q = y .denominator in subst₂ (λ a b. a ≤ℤ b)
     (rounding-laws .cancels (x .numerator) (p .number) (p .above) (q .number) (q .above))

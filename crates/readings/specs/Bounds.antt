@@ -4,10 +4,10 @@ use mathlib.Core.Bool.{cond}
 use mathlib.Core.List.{List, [], _∷_, map}
 use Prim.Native.Nat.{ℕ, _+_, _*_, _^_, _≤_, _<_}
 use lib.Dec.{T, eqb}
-use lib.IntN.{ℤ, pos, natAbs, _+ℤ_, _*ℤ_}
+use lib.IntN.{ℤ, pos, natAbs, _+ℤ_}
 use Rattle.integers.specs.Within.{_within_}
 use Rattle.sibson.specs.Fraction.{_≈_, _≤ℚ_, positive, whole, _+ℚ_, _·ℚ_, _÷_}
-use Rattle.sibson.specs.Cubic.{Cell, Point, Cubic, one, r¹, s¹, r², rs, s², r³, r²s, rs², s³, coefficient, value, Jet, jet, _≋_}
+use Rattle.sibson.specs.Cubic.{Cell, Point, pixel, Cubic, one, r¹, s¹, r², rs, s², r³, r²s, rs², s³, coefficient, value, Jet, jet, _≋_}
 use Rattle.sibson.specs.Piece.{Piece, top, right, bottom, left, FourCubics, InCell, triangle, pieceAt, Corner, leftTop, rightTop, leftBottom, rightBottom, at}
 use Rattle.sibson.specs.Element.{Nodes, CornerNumbers, halved, sibson, element}
 use Rattle.sibson.specs.Theorems.{perPixel}
@@ -30,8 +30,8 @@ pub record On (k : Piece) (P : Point) : Type 0 where
 
 -- of corner numbers within N, any cell and all four pieces
 pub record Bounds : Type 0 where
-  -- every point of the cell is one of the piece that it is read from
-  pub everywhere : (P : Point) → InCell P → On (pieceAt P) P
+  -- every pixel of a cell, its edges included, is a point of the piece that it is read from
+  pub pixels : (C : Cell) (a b : ℕ) → a ≤ C .W .number → b ≤ C .H .number → On (pieceAt (pixel C a b)) (pixel C a b)
   -- at every point of a piece the height is within 3/2 N
   pub heights : (n : CornerNumbers) (N : ℕ) → AllWithin N n → (k : Piece) (P : Point) → On k P →
       value (sibson n k) P withinℚ whole (pos (3 * N)) ÷ positive 2 tt
@@ -67,7 +67,7 @@ unitX = record { height = pos 0; xSlope = pos 1; ySlope = pos 0 }
 abbrev pub unitY : Jet ℤ
 unitY = record { height = pos 0; xSlope = pos 0; ySlope = pos 1 }
 
--- the ten coefficients of a cubic in the order of the powers: the doubled ones, of a cubic over the divisor 2
+-- a cubic's ten coefficients, undivided, in the order of `column`: the doubled ones, of a cubic over the divisor 2
 unfoldable pub listed : Cubic → List ℤ
 listed f = map (λ p. coefficient f p) (one ∷ r¹ ∷ s¹ ∷ r² ∷ rs ∷ s² ∷ r³ ∷ r²s ∷ rs² ∷ s³ ∷ [])
 
@@ -93,7 +93,7 @@ pub record WeightSums : Type 0 where
   pub totals : (sizes (written top) ≡ 108) × (sizes (written right) ≡ 248) × (sizes (written bottom) ≡ 248) × (sizes (written left) ≡ 108)
   -- so they add up to at most 256
   pub sums : (k : Piece) → sizes (written k) ≤ 256
-  -- so do the coefficients, times N
+  -- a piece's doubled coefficients, added without their signs, are at most 256 N
   pub coefficients : (n : CornerNumbers) (N : ℕ) → AllWithin N n → (k : Piece) → size (listed (sibson n k)) ≤ 256 * N
 
 -- ---- a corner's height
@@ -102,19 +102,19 @@ pub record WeightSums : Type 0 where
 unfoldable pub weightOf : Corner → FourCubics
 weightOf c = sibson (only c unitHeight)
 
--- the height at a corner changed by z
-unfoldable pub raised : Corner → ℤ → CornerNumbers → CornerNumbers
-raised c z n d = record { height = n d .height +ℤ only c unitHeight d .height *ℤ z; xSlope = n d .xSlope; ySlope = n d .ySlope }
+-- the height at corner c changed by z, all else left as it is
+unfoldable pub nudged : Corner → ℤ → CornerNumbers → CornerNumbers
+nudged c z n d = record { height = cond (eqb (place c) (place d)) (n d .height +ℤ z) (n d .height); xSlope = n d .xSlope; ySlope = n d .ySlope }
 
 -- the point is the corner
 pub record IsAt (c : Corner) (P : Point) : Type 0 where
-  pub rs : P .r ≈ at c .r
-  pub ss : P .s ≈ at c .s
+  pub across : P .r ≈ at c .r
+  pub down : P .s ≈ at c .s
 
 pub record CornerWeights : Type 0 where
   -- the weight is what a change of the corner's height is multiplied by
   pub changes : (c : Corner) (z : ℤ) (n : CornerNumbers) (k : Piece) (P : Point) →
-      value (sibson (raised c z n) k) P ≈ value (sibson n k) P +ℚ z ·ℚ value (weightOf c k) P
+      value (sibson (nudged c z n) k) P ≈ value (sibson n k) P +ℚ z ·ℚ value (weightOf c k) P
   -- on every piece it lies from 0 to 1, and it is 1 only at the corner
   pub least : (c : Corner) (k : Piece) (P : Point) → On k P → whole (pos 0) ≤ℚ value (weightOf c k) P
   pub most : (c : Corner) (k : Piece) (P : Point) → On k P → value (weightOf c k) P ≤ℚ whole (pos 1)
@@ -122,10 +122,13 @@ pub record CornerWeights : Type 0 where
 
 -- at a corner, from both pieces that touch it
 pub record AtCorners : Type 0 where
+  -- a cell's corners are pixels of it
+  pub pixels : (C : Cell) → IsAt leftTop (pixel C 0 0) × IsAt rightTop (pixel C (C .W .number) 0) × IsAt leftBottom (pixel C 0 (C .H .number))
+      × IsAt rightBottom (pixel C (C .W .number) (C .H .number))
   -- height and slopes are exactly the corner's
   pub numbers : (C : Cell) (n : CornerNumbers) (k : Piece) (c : Corner) (P : Point) → T (triangle k P) → IsAt c P → jet C (sibson n k) P ≋ perPixel C (n c)
   -- so the level is its height, and the tilt a node's slopes
-  pub heights : (C : Cell) (n : CornerNumbers) (k : Piece) (c : Corner) (P : Point) → T (triangle k P) → IsAt c P → level C (sibson n k) P ≡ n c .height
-  pub levels : (C : Cell) (m : Nodes) (k : Piece) (c : Corner) (P : Point) → T (triangle k P) → IsAt c P → level C (element C m k) P ≡ m c .height
-  pub tiltsX : (C : Cell) (m : Nodes) (k : Piece) (c : Corner) (P : Point) → T (triangle k P) → IsAt c P → tiltX C (element C m k) P ≡ m c .xSlope
-  pub tiltsY : (C : Cell) (m : Nodes) (k : Piece) (c : Corner) (P : Point) → T (triangle k P) → IsAt c P → tiltY C (element C m k) P ≡ m c .ySlope
+  pub levels : (C : Cell) (n : CornerNumbers) (k : Piece) (c : Corner) (P : Point) → T (triangle k P) → IsAt c P → level C (sibson n k) P ≡ n c .height
+  pub nodeLevels : (C : Cell) (m : Nodes) (k : Piece) (c : Corner) (P : Point) → T (triangle k P) → IsAt c P → level C (element C m k) P ≡ m c .height
+  pub nodeTiltsX : (C : Cell) (m : Nodes) (k : Piece) (c : Corner) (P : Point) → T (triangle k P) → IsAt c P → tiltX C (element C m k) P ≡ m c .xSlope
+  pub nodeTiltsY : (C : Cell) (m : Nodes) (k : Piece) (c : Corner) (P : Point) → T (triangle k P) → IsAt c P → tiltY C (element C m k) P ≡ m c .ySlope

@@ -14,21 +14,21 @@ unfoldable pub readings : Cell → Cubic → Point → List ℤ
 readings C f P = level C f P ∷ tiltX C f P ∷ tiltY C f P ∷ bendXX C f P ∷ bendXY C f P ∷ bendYY C f P ∷ []
 
 -- a cell with its nodes, a pixel of it, and the readings there
-pub record Row : Type 0 where
+pub record Example : Type 0 where
   pub cell : Cell
   pub nodes : Nodes
   pub x : ℕ
   pub y : ℕ
   pub numbers : List ℤ
 
-abbrev pub row : Cell → Nodes → ℕ → ℕ → List ℤ → Row
+abbrev pub row : Cell → Nodes → ℕ → ℕ → List ℤ → Example
 row C m a b zs = record { cell = C; nodes = m; x = a; y = b; numbers = zs }
 
 -- they are those of the pixel's piece
-unfoldable pub Reads : Row → Type 0
+unfoldable pub Reads : Example → Type 0
 Reads w = let C = w .cell in let P = pixel C (w .x) (w .y) in readings C (element C (w .nodes) (pieceAt P)) P ≡ w .numbers
 
-abbrev pub table : List Row
+abbrev pub table : List Example
 table =
     -- lines 0 and 2, height 00 is 1 step: 01's numbers at the corner and at the centre
     row two (raised (+ 64) (+ 0)) 0 0 (+ 64 ∷ + 0 ∷ + 0 ∷ − 6144 ∷ + 0 ∷ − 6144 ∷ []) ∷

@@ -35,6 +35,13 @@ pub record _withinℚ_ (x y : ℚ) : Type 0 where
   pub lower : negℤ (pos 1) ·ℚ y ≤ℚ x
   pub upper : x ≤ℚ y
 
--- a fraction moves by at most half a unit, so every reading lies within half a unit of the exact value
 pub record HalfUnit : Type 0 where
+  -- a fraction moves by at most half a unit
   pub distances : (x : ℚ) → whole (rounded x) -ℚ x withinℚ half
+  -- so every reading lies within half a unit of the exact value
+  pub levels : (C : Cell) (f : Cubic) (P : Point) → whole (level C f P) -ℚ jet C f P .height withinℚ half
+  pub tiltsX : (C : Cell) (f : Cubic) (P : Point) → whole (tiltX C f P) -ℚ jet C f P .xSlope withinℚ half
+  pub tiltsY : (C : Cell) (f : Cubic) (P : Point) → whole (tiltY C f P) -ℚ jet C f P .ySlope withinℚ half
+  pub bendsXX : (C : Cell) (f : Cubic) (P : Point) → whole (bendXX C f P) -ℚ pos 64 ·ℚ bend C f P .xx withinℚ half
+  pub bendsXY : (C : Cell) (f : Cubic) (P : Point) → whole (bendXY C f P) -ℚ pos 64 ·ℚ bend C f P .xy withinℚ half
+  pub bendsYY : (C : Cell) (f : Cubic) (P : Point) → whole (bendYY C f P) -ℚ pos 64 ·ℚ bend C f P .yy withinℚ half

@@ -1,10 +1,16 @@
 -- The height at a pixel over the divisor times W³ H³, as a cubic in the offset along its row. Assumes nothing.
+use mathlib.Core.Path.{_≡_, _∙_, ap}
 use mathlib.Core.List.{List, [], _∷_}
-use Prim.Native.Nat.{ℕ, _+_}
+use Prim.Native.Nat.{ℕ, _+_, _*_}
+use native.Mathlib.Nat.{one-mul}
 use lib.IntN.{ℤ, pos}
 use Rattle.integers.proofs.Polynomial.{Expr, var, #_, _⊕_, _⊗_}
-use Rattle.sibson.specs.Cubic.{Cell, value}
+use Rattle.integers.specs.Round.{round}
+use Rattle.sibson.specs.Fraction.{Positive, ℚ, _≈_, _*⁺_, whole, _÷_}
+use Rattle.sibson.specs.Cubic.{Cell, pixel, Cubic, value, jet}
 use Rattle.sibson.proofs.Quote.{Quotient, _/ₑ_, valueₑ, equal, anyₑ, cubic}
+use Rattle.readings.specs.Reading.{rounded, level}
+use Rattle.readings.proofs.Rounded.{rounded-≈}
 use Rattle.rows.specs.Row.{down, alongRow, atOffset, cubesOf, Rows}
 
 -- from variable i on: a, W, b and H
@@ -28,10 +34,20 @@ rowₑ = let f = anyₑ in let a = var 11 in let w = var 12 in
 abbrev cubesₑ : Expr
 cubesₑ = let w = var 12 in let h = var 14 in w ⊗ w ⊗ w ⊗ (h ⊗ h ⊗ h)
 
-pub rows : Rows
+heights : (C : Cell) (f : Cubic) (a b : ℕ) → value f (pixel C a b) ≈ whole (atOffset (alongRow C f b) a) ÷ (f .divisor *⁺ cubesOf C)
 unfolding value down alongRow atOffset cubesOf
-rows = record {
-  heights = λ C f a b. record {
-    crossed = equal (valueₑ anyₑ (rₑ 11) (sₑ 11)) (rowₑ /ₑ (# 1 ⊗ (anyₑ .divisor ⊗ cubesₑ))) tt (cubic f (offset C a b));
-  };
+heights C f a b = record {
+  crossed = equal (valueₑ anyₑ (rₑ 11) (sₑ 11)) (rowₑ /ₑ (# 1 ⊗ (anyₑ .divisor ⊗ cubesₑ))) tt (cubic f (offset C a b));
 }
+
+-- a fraction over a natural, rounded
+pub rounded-over : {x : ℚ} (n : ℤ) (d : Positive) → x ≈ whole n ÷ d → rounded x ≡ round n (d .number)
+unfolding rounded
+rounded-over n d e = rounded-≈ e ∙ ap (round n) (one-mul (d .number))
+
+levels : (C : Cell) (f : Cubic) (a b : ℕ) → level C f (pixel C a b) ≡ round (atOffset (alongRow C f b) a) (f .divisor .number * cubesOf C .number)
+unfolding level jet
+levels C f a b = rounded-over (atOffset (alongRow C f b) a) (f .divisor *⁺ cubesOf C) (heights C f a b)
+
+pub rows : Rows
+rows = record { heights = heights; levels = levels }

@@ -2,15 +2,15 @@
 use mathlib.Core.Path.{subst⁻¹}
 use mathlib.Core.List.{List, [], _∷_}
 use Prim.Native.Nat.{ℕ, _+_, _*_, _^_, _≤_}
-use native.Mathlib.Nat.{le-trans, add-le-add, mul-le-mul}
+use native.Mathlib.Nat.{le-trans}
 use native.Mathlib.Omega.{arith}
 use lib.ListN.{getD}
-use lib.IntN.{ℤ, pos, natAbs, _*ℤ_}
+use lib.IntN.{ℤ, pos, natAbs}
 use Rattle.integers.specs.Within.{_within_}
 use Rattle.integers.proofs.Bounds.{within-self, within-mono, within-+, within-*}
 use Rattle.sibson.specs.Cubic.{Cell, Cubic}
 use Rattle.readings.specs.Bounds.{largest, listed, size}
-use Rattle.rows.specs.Row.{down, alongRow, reach, InRow}
+use Rattle.rows.specs.Row.{down, alongRow, reach}
 use Rattle.corners.specs.Held.{Side, side, cell}
 use Rattle.turnings.specs.Doubled.{halves, Sized}
 use Rattle.corners.proofs.Sides.{length-within, square-within, cube-within, side-is}
@@ -38,28 +38,20 @@ down-within c {b} {h} u v =
     (within-* (within-self (getD c 3 (pos 0))) (cube-within u)))
     (omega (arith, four-in-size c))
 
--- p₀ + w (p₁ + w (p₂ + w p₃)), where pᵢ is w³⁻ⁱ times the polynomial in s that stands at rⁱ
-pub along-row-reach : (C : Cell) (f : Cubic) (b : ℕ) → C .W .number ≤ 64 → C .H .number ≤ 64 → b ≤ 64 → size (listed f) ≤ 256 * largest →
-    reach (alongRow C f b) (C .W .number) ≤ 2 ^ 62
+-- p₀ + 64 (p₁ + 64 (p₂ + 64 p₃)), where pᵢ is w³⁻ⁱ times the polynomial in s that stands at rⁱ
+along-row-reach : (C : Cell) (f : Cubic) (b : ℕ) → C .W .number ≤ 64 → C .H .number ≤ 64 → b ≤ 64 → size (listed f) ≤ 256 * largest → reach (alongRow C f b) ≤ 2 ^ 62
 unfolding alongRow reach listed size
 along-row-reach C f b w h u s =
-    le-trans
-    (add-le-add (within-* (cube-within w) (polynomial (f .c00 ∷ f .c01 ∷ f .c02 ∷ f .c03 ∷ [])) .bound)
-    (mul-le-mul w (add-le-add (within-* (square-within w) (polynomial (f .c10 ∷ f .c11 ∷ f .c12 ∷ [])) .bound)
-    (mul-le-mul w (add-le-add (within-* (length-within w) (polynomial (f .c20 ∷ f .c21 ∷ [])) .bound)
-    (mul-le-mul w (polynomial (f .c30 ∷ []) .bound)))))))
-    (omega (arith, s))
+    let p₀ = within-* (cube-within w) (polynomial (f .c00 ∷ f .c01 ∷ f .c02 ∷ f .c03 ∷ [])) .bound in
+    let p₁ = within-* (square-within w) (polynomial (f .c10 ∷ f .c11 ∷ f .c12 ∷ [])) .bound in
+    let p₂ = within-* (length-within w) (polynomial (f .c20 ∷ f .c21 ∷ [])) .bound in
+    let p₃ = polynomial (f .c30 ∷ []) .bound in
+    omega (arith, s, p₀, p₁, p₂, p₃)
   where
     polynomial : (c : List ℤ) → down c b (C .H .number) within (size c * 2 ^ 18)
     polynomial c = down-within c u h
 
-pub in-row : {k : List ℤ} {w h a b : ℕ} → Sized k → Side w → Side h → a ≤ w → b ≤ h → InRow (alongRow (cell w h) (halves k) b) a
+pub row-reach : {k : List ℤ} {w h b : ℕ} → Sized k → Side w → Side h → b ≤ h → reach (alongRow (cell w h) (halves k) b) ≤ 2 ^ 62
 unfolding cell
-in-row {k} {w} {h} {a} {b} s u v across down = record {
-  width = side w .number;
-  least = subst⁻¹ (λ (l : ℕ). 1 ≤ l) (side-is u) (u .least);
-  most = subst⁻¹ (λ (l : ℕ). l ≤ 64) (side-is u) (u .most);
-  within = subst⁻¹ (λ (l : ℕ). a ≤ l) (side-is u) across;
-  sum = along-row-reach (cell w h) (halves k) b (subst⁻¹ (λ (l : ℕ). l ≤ 64) (side-is u) (u .most)) (subst⁻¹ (λ (l : ℕ). l ≤ 64) (side-is v) (v .most))
-      (le-trans down (v .most)) (s .sum);
-}
+row-reach {k} {w} {h} {b} s u v down = along-row-reach (cell w h) (halves k) b
+    (subst⁻¹ (λ (l : ℕ). l ≤ 64) (side-is u) (u .most)) (subst⁻¹ (λ (l : ℕ). l ≤ 64) (side-is v) (v .most)) (le-trans down (v .most)) (s .sum)

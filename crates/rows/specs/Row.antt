@@ -1,10 +1,13 @@
 -- The height along a row of pixels: over the divisor times W³ H³ it is a cubic in the offset from the cell's left edge. Assumes nothing.
+use mathlib.Core.Path.{_≡_}
 use mathlib.Core.List.{List, [], _∷_}
-use Prim.Native.Nat.{ℕ, _+_, _*_, _^_, _≤_}
+use Prim.Native.Nat.{ℕ, _+_, _*_}
 use lib.IntN.{ℤ, pos, natAbs, _+ℤ_, _*ℤ_}
 use lib.ListN.{getD}
+use Rattle.integers.specs.Round.{round}
 use Rattle.sibson.specs.Fraction.{Positive, _*⁺_, _≈_, whole, _÷_}
 use Rattle.sibson.specs.Cubic.{Cell, pixel, Cubic, value}
+use Rattle.readings.specs.Reading.{level}
 
 -- c₀ + c₁ s + c₂ s² + c₃ s³ at s = b/h, times h³; one that is not listed is 0
 unfoldable pub down : List ℤ → ℕ → ℕ → ℤ
@@ -29,15 +32,9 @@ cubesOf C = C .W *⁺ C .W *⁺ C .W *⁺ (C .H *⁺ C .H *⁺ C .H)
 
 pub record Rows : Type 0 where
   pub heights : (C : Cell) (f : Cubic) (a b : ℕ) → value f (pixel C a b) ≈ whole (atOffset (alongRow C f b) a) ÷ (f .divisor *⁺ cubesOf C)
+  -- so a level takes the value at its offset and one rounding
+  pub levels : (C : Cell) (f : Cubic) (a b : ℕ) → level C f (pixel C a b) ≡ round (atOffset (alongRow C f b) a) (f .divisor .number * cubesOf C .number)
 
--- what bounds the cubic, and each part of it in Horner's rule, at offsets up to w: p₀ + w (p₁ + w (p₂ + w p₃)) without signs
-unfoldable pub reach : List ℤ → ℕ → ℕ
-reach p w = natAbs (getD p 0 (pos 0)) + w * (natAbs (getD p 1 (pos 0)) + w * (natAbs (getD p 2 (pos 0)) + w * natAbs (getD p 3 (pos 0))))
-
--- an offset of a row in which nothing exceeds 2⁶²
-pub record InRow (p : List ℤ) (a : ℕ) : Type 0 where
-  pub width : ℕ
-  pub least : 1 ≤ width
-  pub most : width ≤ 64
-  pub within : a ≤ width
-  pub sum : reach p width ≤ 2 ^ 62
+-- what bounds the cubic, and each part of it in Horner's rule, at offsets up to 64: p₀ + 64 (p₁ + 64 (p₂ + 64 p₃)) without signs
+unfoldable pub reach : List ℤ → ℕ
+reach p = natAbs (getD p 0 (pos 0)) + 64 * (natAbs (getD p 1 (pos 0)) + 64 * (natAbs (getD p 2 (pos 0)) + 64 * natAbs (getD p 3 (pos 0))))

@@ -2,12 +2,12 @@
 pub mod theorems;
 
 ghost use mathlib.Core.Path.{_≡_};
-ghost use Prim.Native.Nat.{_*_, _≤_};
+ghost use Prim.Native.Nat.{_*_, _^_, _≤_};
 ghost use lib.IntN.{pos};
 ghost use Rattle.readings.specs.Bounds.{largest, size};
 ghost use Rattle.corners.specs.Held.{Side, cell};
 ghost use Rattle.turnings.specs.Doubled.{halves, Sized};
-ghost use Rattle.rows.specs.Row.{down, alongRow, atOffset, cubesOf, InRow};
+ghost use Rattle.rows.specs.Row.{down, alongRow, atOffset, cubesOf, reach};
 use corners::lengths::cube;
 use corners::lengths::length;
 use corners::lengths::square;
@@ -27,7 +27,7 @@ pub fn along_row(k: [i64; 10], b: usize, width: usize, height: usize) -> [i64; 4
 
 // Its value at an offset, by Horner's rule.
 pub fn at_offset(row: [i64; 4], offset: usize) -> i64
-    requires { ⌜ InRow row offset ⌝ }
+    requires { ⌜ (reach row ≤ 2 ^ 62) × (offset ≤ 64) ⌝ }
     ensures { λ r. ⌜ r ≡ atOffset row offset ⌝ }
 {
     let a = length(offset);

@@ -1,1 +1,2 @@
 pub mod Doubled
+pub mod Joined

@@ -1,4 +1,6 @@
 // Turnings of a cubic: its doubled coefficients, in the order 1, r, s, r², rs, s², r³, r²s, rs², s³, in other coordinates of the cell.
+pub mod theorems;
+
 ghost use mathlib.Core.Path.{_≡_};
 ghost use Rattle.sibson.specs.Element.{transposed, flipped, mirrored};
 ghost use Rattle.readings.specs.Bounds.{listed};

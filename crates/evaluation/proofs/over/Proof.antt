@@ -1,7 +1,6 @@
 -- `evaluation::over` meets its contract: 2 x y is from 1 to 2³⁷. Assumes nothing.
 use mathlib.Core.Path.{_≡_, _∙_, ap}
-use borrow.Author.Needs.{needs}
-use Prim.Native.Nat.{_*_, _^_}
+use Prim.Native.Nat.{_*_}
 use native.Mathlib.Nat.{mul-pos}
 use lib.Dec.{lit<}
 use lib.IntN.{ℤ, pos, negsuc, natAbs, _*ℤ_}
@@ -10,7 +9,7 @@ use mir.Syntax.{w64}
 use Rattle.integers.specs.Round.{round}
 use Rattle.integers.specs.Ratio.{Ratio}
 use Rattle.integers.proofs.Order.{<→<ℤ, <ℤ→<}
-use Rattle.integers.proofs.Bounds.{natAbs-*, within-mono}
+use Rattle.integers.proofs.Bounds.{natAbs-*}
 use Rattle.integers.proofs.Operand.{Operand, literal, known, stored, _⊠_, asks, gives, unchanged}
 use Rattle.evaluation.proofs.over.Statement.{statement}
 use Rattle.evaluation.proofs.over.Tie as tie
