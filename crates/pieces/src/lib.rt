@@ -84,16 +84,11 @@ fn added(sums: [i64; 10], row: [i64; 10], n: i64) -> [i64; 10]
     requires { ⌜ TenWithin (66 * largest) sums × TenWithin 6 row × (n within largest) ⌝ }
     ensures { λ r. ⌜ r ≡ added sums row n ⌝ }
 {
-    [
-        row[0] * n + sums[0],
-        row[1] * n + sums[1],
-        row[2] * n + sums[2],
-        row[3] * n + sums[3],
-        row[4] * n + sums[4],
-        row[5] * n + sums[5],
-        row[6] * n + sums[6],
-        row[7] * n + sums[7],
-        row[8] * n + sums[8],
-        row[9] * n + sums[9],
-    ]
+    let mut r: [i64; 10] = [0; 10];
+    let mut p: usize = 0;
+    while p < 10 {
+        r[p] = row[p] * n + sums[p];
+        p += 1;
+    }
+    r
 }
