@@ -54,7 +54,7 @@ pub fn left_right(n: [[i64; 3]; 4]) -> [[i64; 3]; 4]
     ]
 }
 
-// One corner: slopes times width and height, exchanged, or one of them negated.
+// One corner: the x-slope times the width, the y-slope times the height.
 fn scaled(c: [i64; 3], width: usize, height: usize) -> [i64; 3]
     requires { ⌜ (jetOf c .xSlope within 4095) × (jetOf c .ySlope within 4095) × Side width × Side height ⌝ }
     ensures { λ r. ⌜ r ≡ three (numbersOf (cell width height) (jetOf c)) ⌝ }
@@ -62,12 +62,14 @@ fn scaled(c: [i64; 3], width: usize, height: usize) -> [i64; 3]
     [c[0], length(width) * c[1], length(height) * c[2]]
 }
 
+// Its slopes exchanged.
 fn swap(c: [i64; 3]) -> [i64; 3]
     ensures { λ r. ⌜ r ≡ three (swap (jetOf c)) ⌝ }
 {
     [c[0], c[2], c[1]]
 }
 
+// Its x-slope negated.
 fn negate_x(c: [i64; 3]) -> [i64; 3]
     requires { ⌜ jetOf c .xSlope within largest ⌝ }
     ensures { λ r. ⌜ r ≡ three (negateX (jetOf c)) ⌝ }
@@ -75,6 +77,7 @@ fn negate_x(c: [i64; 3]) -> [i64; 3]
     [c[0], -c[1], c[2]]
 }
 
+// Its y-slope negated.
 fn negate_y(c: [i64; 3]) -> [i64; 3]
     requires { ⌜ jetOf c .ySlope within largest ⌝ }
     ensures { λ r. ⌜ r ≡ three (negateY (jetOf c)) ⌝ }

@@ -9,6 +9,7 @@ use Rattle.sibson.specs.Cubic.{Cell, Point, pixel}
 use Rattle.corners.specs.Held.{Side, cell}
 use Rattle.evaluation.specs.declared.Pixel.{Pixel}
 
+-- its cell, and its place there
 abbrev pub cellOf : Pixel → Cell
 cellOf p = cell (p .width) (p .height)
 
@@ -26,7 +27,7 @@ pub record Inside (p : Pixel) : Type 0 where
 pub record EachWithin (N : ℕ) (zs : List ℤ) : Type 0 where
   pub each : (i : ℕ) → getD zs i (pos 0) within N
 
--- a power of a side: 1 to 64³
+-- a number from 1 to 64³, as the powers of a side are
 pub record Factor (x : ℤ) : Type 0 where
   pub positive : pos 0 <ℤ x
   pub small : x within (2 ^ 18)

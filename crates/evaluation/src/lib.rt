@@ -28,6 +28,7 @@ pub struct Pixel {
     pub height: usize,
 }
 
+// The level, in grains.
 pub fn level(k: [i64; 10], p: Pixel) -> i64
     requires { ⌜ Sized k × Inside p ⌝ }
     ensures { λ r. ⌜ r ≡ level (cellOf p) (halves k) (pointOf p) ⌝ }
@@ -37,6 +38,7 @@ pub fn level(k: [i64; 10], p: Pixel) -> i64
     integers::round(n, rows::denominator(p.width, p.height))
 }
 
+// The tilt along x, and along y, in grains per pixel.
 pub fn tilt_x(k: [i64; 10], p: Pixel) -> i64
     requires { ⌜ Sized k × Inside p ⌝ }
     ensures { λ r. ⌜ r ≡ tiltX (cellOf p) (halves k) (pointOf p) ⌝ }
@@ -51,6 +53,7 @@ pub fn tilt_y(k: [i64; 10], p: Pixel) -> i64
     slope(by_s(k), p, square(p.width), cube(p.height))
 }
 
+// The bend: along x, mixed, and along y, in 1/64 grain per pixel per pixel.
 pub fn bend_xx(k: [i64; 10], p: Pixel) -> i64
     requires { ⌜ Sized k × Inside p ⌝ }
     ensures { λ r. ⌜ r ≡ bendXX (cellOf p) (halves k) (pointOf p) ⌝ }

@@ -11,7 +11,7 @@ use Rattle.integers.proofs.Bounds.{within-self, within-mono, within-+, within-*
 use Rattle.sibson.specs.Cubic.{Cell, Cubic}
 use Rattle.readings.specs.Bounds.{largest, listed, size}
 use Rattle.rows.specs.Row.{down, alongRow, reach}
-use Rattle.corners.specs.Held.{Side, side, cell}
+use Rattle.corners.specs.Held.{Side, cell}
 use Rattle.turnings.specs.Doubled.{halves, Sized}
 use Rattle.corners.proofs.Sides.{length-within, square-within, cube-within, side-is}
 

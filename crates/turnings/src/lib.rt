@@ -18,17 +18,27 @@ pub fn flipped(k: [i64; 10]) -> [i64; 10]
     requires { ⌜ Sized k ⌝ }
     ensures { λ r. ⌜ r ≡ listed (flipped (halves k)) ⌝ }
 {
+    let one = k[0];
+    let r = k[1];
+    let s = k[2];
+    let rr = k[3];
+    let rs = k[4];
+    let ss = k[5];
+    let rrr = k[6];
+    let rrs = k[7];
+    let rss = k[8];
+    let sss = k[9];
     [
-        k[0] + k[2] + k[5] + k[9],
-        k[1] + k[4] + k[8],
-        -(k[2] + 2 * k[5] + 3 * k[9]),
-        k[3] + k[7],
-        -(k[4] + 2 * k[8]),
-        k[5] + 3 * k[9],
-        k[6],
-        -k[7],
-        k[8],
-        -k[9],
+        one + s + ss + sss,
+        r + rs + rss,
+        -(s + 2 * ss + 3 * sss),
+        rr + rrs,
+        -(rs + 2 * rss),
+        ss + 3 * sss,
+        rrr,
+        -rrs,
+        rss,
+        -sss,
     ]
 }
 

@@ -1,7 +1,6 @@
 -- `evaluation_test::cell` meets its contract: measured nodes give corner numbers in range. Assumes nothing.
 use borrow.Author.Needs.{needs}
 use Prim.Native.Nat.{_+_, _-_, _≤_}
-use native.Mathlib.Omega.{arith}
 use Rattle.corners.proofs.Arrays.{held, measured-within}
 use Rattle.evaluation_test.proofs.cell.Statement.{statement}
 use Rattle.evaluation_test.proofs.cell.Tie as tie

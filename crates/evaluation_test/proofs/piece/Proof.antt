@@ -1,9 +1,8 @@
 -- `evaluation_test::piece` meets its contract: no product exceeds 64 · 64. Assumes nothing.
 use borrow.Author.Needs.{needs}
-use Prim.Native.Nat.{ℕ, _*_, _≤_}
+use Prim.Native.Nat.{_*_, _≤_}
 use native.Mathlib.Nat.{le-trans, mul-le-mul}
 use native.Mathlib.Omega.{arith}
-use Rattle.evaluation.specs.Pixels.{Inside}
 use Rattle.evaluation_test.proofs.piece.Statement.{statement}
 use Rattle.evaluation_test.proofs.piece.Tie as tie
 

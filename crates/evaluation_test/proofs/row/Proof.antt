@@ -1,7 +1,6 @@
 -- `evaluation_test::row` meets its contract. Assumes nothing.
 use borrow.Author.Needs.{needs}
 use Prim.Native.Nat.{_+_, _-_, _≤_}
-use native.Mathlib.Omega.{arith}
 use Rattle.evaluation_test.proofs.row.Statement.{statement}
 use Rattle.evaluation_test.proofs.row.Tie as tie
 

@@ -2,7 +2,6 @@
 use mathlib.Core.Path.{_≡_, refl, _∙_, ap}
 use borrow.Author.Needs.{needs}
 use Prim.Native.Nat.{ℕ, _-_, _≤_, _<_}
-use native.Mathlib.Omega.{arith}
 use lib.ListN.{set}
 use mir.Syntax.{w64}
 use mir.Val.{toZ}

@@ -10,7 +10,7 @@ use mir.Syntax.{w64}
 use Rattle.sibson.specs.Cubic.{Power, one, r¹, s¹, r², rs, s², r³, r²s, rs², s³}
 use Rattle.readings.specs.Bounds.{largest, listed, size}
 use Rattle.integers.proofs.Bounds.{within-mono}
-use Rattle.integers.proofs.Operand.{Operand, known, returned, stored, _⊠_, asks, gives}
+use Rattle.integers.proofs.Operand.{Operand, known, returned, _⊠_, asks, gives}
 use Rattle.corners.specs.Held.{Side, cell}
 use Rattle.turnings.specs.Doubled.{halves}
 use Rattle.rows.specs.Row.{down, alongRow}

@@ -49,68 +49,48 @@ of-rs s = k s 4 ⊞ stored w64 (twice s 8) tt
 abbrev of-s² : tie.Start → Operand
 of-s² s = k s 5 ⊞ stored w64 (thrice s) tt
 
--- the entry, from where an element has been read
-abbrev at16 : tie.After-t16 → tie.Start
-at16 c = c .before .before .before .before
-
-abbrev at27 : tie.After-t27 → tie.Start
-at27 c = at16 (c .before .before .before)
-
-abbrev at39 : tie.After-t39 → tie.Start
-at39 c = at27 (c .before .before .before)
-
-abbrev at55 : tie.After-t55 → tie.Start
-at55 c = at39 (c .before .before .before .before)
-
-abbrev at72 : tie.After-t72 → tie.Start
-at72 c = at55 (c .before .before .before .before)
+-- the entry, from where all ten have been read
+abbrev entry : tie.After-sss → tie.Start
+entry c = c .before .before .before .before .before .before .before .before .before .before
 
 returns : tie.Need-returns
 unfolding listed flipped halves
-returns c i = let s = at72 (c .before .before) in
+returns c i = let s = entry c in
     gives w64 (of-1 s) tt i ∷ gives w64 (of-r s) tt i ∷ gives w64 (opposite (stored w64 (of-s s) tt)) tt i ∷ gives w64 (k s 3 ⊞ k s 7) tt i ∷
     gives w64 (opposite (stored w64 (of-rs s) tt)) tt i ∷ gives w64 (of-s² s) tt i ∷
     k s 6 .reads i ∷ gives w64 (opposite (k s 7)) tt i ∷ k s 8 .reads i ∷ gives w64 (opposite (k s 9)) tt i ∷ []
 
 pub flipped-spec : {M : Type 1} → statement M
 unfolding listed halves
-flipped-spec = tie.close (tie.spec
+flipped-spec =
+    tie.close
+    (tie.spec
     (λ c. lit< tt)
     (λ c. lit< tt)
-    (λ c. asks w64 (k02 (c .before .before)) tt)
-    (λ c. lit< tt)
-    (λ c. asks w64 (k025 (c .before .before .before)) tt)
-    (λ c. lit< tt)
-    (λ c. asks w64 (of-1 (at16 c)) tt)
     (λ c. lit< tt)
     (λ c. lit< tt)
-    (λ c. asks w64 (k14 (at16 (c .before .before))) tt)
-    (λ c. lit< tt)
-    (λ c. asks w64 (of-r (at27 c)) tt)
     (λ c. lit< tt)
     (λ c. lit< tt)
-    (λ c. asks w64 (twice (at27 (c .before .before)) 5) tt)
-    (λ c. asks w64 (k25 (at27 (c .before .before))) tt)
-    (λ c. lit< tt)
-    (λ c. asks w64 (thrice (at39 c)) tt)
-    (λ c. asks w64 (of-s (at39 c)) tt)
-    (λ c. asks w64 (opposite (stored w64 (of-s (at39 c)) tt)) tt)
     (λ c. lit< tt)
     (λ c. lit< tt)
-    (λ c. let s = at39 (c .before .before) in asks w64 (k s 3 ⊞ k s 7) tt)
     (λ c. lit< tt)
     (λ c. lit< tt)
-    (λ c. asks w64 (twice (at55 c) 8) tt)
-    (λ c. asks w64 (of-rs (at55 c)) tt)
-    (λ c. asks w64 (opposite (stored w64 (of-rs (at55 c)) tt)) tt)
-    (λ c. lit< tt)
-    (λ c. lit< tt)
-    (λ c. asks w64 (thrice (at55 (c .before .before))) tt)
-    (λ c. asks w64 (of-s² (at55 (c .before .before))) tt)
-    (λ c. lit< tt)
-    (λ c. lit< tt)
-    (λ c. asks w64 (opposite (k (at72 c) 7)) tt)
-    (λ c. lit< tt)
-    (λ c. lit< tt)
-    (λ c. asks w64 (opposite (k (at72 (c .before .before)) 9)) tt)
+    (λ c. asks w64 (k02 (entry c)) tt)
+    (λ c. asks w64 (k025 (entry c)) tt)
+    (λ c. asks w64 (of-1 (entry c)) tt)
+    (λ c. asks w64 (k14 (entry c)) tt)
+    (λ c. asks w64 (of-r (entry c)) tt)
+    (λ c. asks w64 (twice (entry c) 5) tt)
+    (λ c. asks w64 (k25 (entry c)) tt)
+    (λ c. asks w64 (thrice (entry c)) tt)
+    (λ c. asks w64 (of-s (entry c)) tt)
+    (λ c. asks w64 (opposite (stored w64 (of-s (entry c)) tt)) tt)
+    (λ c. asks w64 (k (entry c) 3 ⊞ k (entry c) 7) tt)
+    (λ c. asks w64 (twice (entry c) 8) tt)
+    (λ c. asks w64 (of-rs (entry c)) tt)
+    (λ c. asks w64 (opposite (stored w64 (of-rs (entry c)) tt)) tt)
+    (λ c. asks w64 (thrice (entry c)) tt)
+    (λ c. asks w64 (of-s² (entry c)) tt)
+    (λ c. asks w64 (opposite (k (entry c) 7)) tt)
+    (λ c. asks w64 (opposite (k (entry c) 9)) tt)
     returns)
