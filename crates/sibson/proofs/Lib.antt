@@ -17,5 +17,4 @@ pub mod Blank
 pub mod Difference
 pub mod SameValues
 pub mod Unique
-pub mod Counterexamples
 pub mod Worked

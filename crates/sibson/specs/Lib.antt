@@ -5,5 +5,4 @@ pub mod Conditions
 pub mod Element
 pub mod Theorems
 pub mod Sense
-pub mod Needed
 pub mod Examples

@@ -1,7 +1,6 @@
 // Theorems that belong to no function. Each is the contract of one that returns 0, so that the gate asks for its proof.
 ghost use mathlib.Core.Path.{_≡_};
 ghost use Rattle.sibson.specs.Theorems.{Uniqueness, Existence, Edges};
-ghost use Rattle.sibson.specs.Needed.{Needed};
 ghost use Rattle.sibson.specs.Sense.{FractionLaws, SameValues, Derivatives, Turnings, Linearity, Covering};
 ghost use Rattle.sibson.specs.Examples.{Examples};
 
@@ -19,12 +18,6 @@ pub fn existence() -> u64
 
 pub fn edges() -> u64
     ensures { λ r. ⌜ (r ≡ 0) × Edges ⌝ }
-{
-    0
-}
-
-pub fn needed() -> u64
-    ensures { λ r. ⌜ (r ≡ 0) × Needed ⌝ }
 {
     0
 }

@@ -8,23 +8,23 @@ use native.Mathlib.Omega.{arith}
 use lib.Dec.{T, ltb, ltb→lt}
 use lib.ListN.{getD}
 use lib.IntN.{ℤ, pos, natAbs}
 use Rattle.sibson.specs.Fraction.{Positive, positive}
 use Rattle.sibson.specs.Cubic.{Cell, Cubic, Power, r², s², s³, coefficient, cubicOf, _≅_, jet}
 use Rattle.sibson.specs.Piece.{Piece, top, right, bottom, left, number, next, FourCubics, triangle, Corner, at}
 use Rattle.sibson.specs.Conditions.{Smooth, SameCorners, Equal}
 use Rattle.sibson.specs.Element.{column, +_, −_}
 use Rattle.sibson.specs.Theorems.{perPixel}
-use Rattle.sibson.specs.Needed.{MeetsSome, Counterexample, Needed}
+use Rattle.needed.specs.Needed.{MeetsSome, Counterexample, Needed}
 use Rattle.integers.proofs.Polynomial.{con, #_, _⊗_}
 use Rattle.integers.proofs.Solve.{_≐_}
 use Rattle.integers.proofs.Deduce.{_·_, _⊨_, deduce, both}
 use Rattle.sibson.proofs.Finite.{everyPiece, every-piece, everyCorner, every-corner, implies, implied, differs, apart, and}
 use Rattle.sibson.proofs.Jets.{≋-sym, ≋-trans, none}
 use Rattle.sibson.proofs.Quote.{Cubicₑ, cubicOfₑ}
 use Rattle.sibson.proofs.Evaluate.{zeroes, zeroes-none, flatₑ}
 use Rattle.sibson.proofs.Places.{joins, joined, smooth-at, flat, no-square, has, has-numbers}
 use Rattle.sibson.proofs.Coefficients.{coefficient-of, Zero}
 use Rattle.sibson.proofs.Rotation.{rotatedSet, onSide, smooth-rotated, square-rotated, NothingAtCorners, corners-rotated, zero-rotated}
 
 -- ---- sets of whole coefficients, in the powers' order
 
