@@ -43,17 +43,19 @@ pub fn coefficients(n: [[i64; 3]; 4], piece: Piece) -> [i64; 10]
     }
 }
 
-// Piece 0, and piece 3: piece 0 at (s, r).
+// Piece 0, from the last corner to the first. The table is taken once, its rows by literal indices, so the compiler folds them.
 fn on_top(n: [[i64; 3]; 4]) -> [i64; 10]
     requires { ⌜ AllWithin largest (corners n) ⌝ }
     ensures { λ r. ⌜ r ≡ listed (onTop (corners n)) ⌝ }
 {
-    let last = with_corner([0; 10], n[3], WEIGHTS[9], WEIGHTS[10], WEIGHTS[11]);
-    let bottom = with_corner(last, n[2], WEIGHTS[6], WEIGHTS[7], WEIGHTS[8]);
-    let three = with_corner(bottom, n[1], WEIGHTS[3], WEIGHTS[4], WEIGHTS[5]);
-    with_corner(three, n[0], WEIGHTS[0], WEIGHTS[1], WEIGHTS[2])
+    let t = WEIGHTS;
+    let last = with_corner([0; 10], n[3], t[9], t[10], t[11]);
+    let bottom = with_corner(last, n[2], t[6], t[7], t[8]);
+    let three = with_corner(bottom, n[1], t[3], t[4], t[5]);
+    with_corner(three, n[0], t[0], t[1], t[2])
 }
 
+// Piece 3: piece 0 at (s, r).
 fn on_left(n: [[i64; 3]; 4]) -> [i64; 10]
     requires { ⌜ AllWithin largest (corners n) ⌝ }
     ensures { λ r. ⌜ r ≡ listed (onLeft (corners n)) ⌝ }
@@ -61,7 +63,7 @@ fn on_left(n: [[i64; 3]; 4]) -> [i64; 10]
     turnings::transposed(on_top(corners::exchanged(n)))
 }
 
-// The weights of a corner's height and slopes, each row times its number, added to sums. Rows are taken from the table by literal indices, so that no table is built.
+// The weights of a corner's height and slopes, each row times its number, added to sums.
 fn with_corner(
     sums: [i64; 10],
     corner: [i64; 3],
