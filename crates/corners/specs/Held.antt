@@ -15,10 +15,11 @@ use Rattle.readings.specs.Bounds.{largest, place}
 unfoldable pub jetOf : List ℤ → Jet ℤ
 jetOf l = record { height = getD l 0 (pos 0); xSlope = getD l 1 (pos 0); ySlope = getD l 2 (pos 0) }
 
+-- the twelve that four arrays hold: corner c of them
 unfoldable pub corners : List (List ℤ) → Corner → Jet ℤ
 corners n c = jetOf (getD n (place c) [])
 
--- and back
+-- and back: three numbers as an array, and the four arrays
 unfoldable pub three : Jet ℤ → List ℤ
 three j = j .height ∷ j .xSlope ∷ j .ySlope ∷ []
 
@@ -45,5 +46,6 @@ unfoldable pub side : ℕ → Positive
 side zero = positive 1 tt
 side (suc l) = record { number = suc l; above = omega arith }
 
+-- the cell w pixels wide and h high
 unfoldable pub cell : ℕ → ℕ → Cell
 cell w h = record { W = side w; H = side h }

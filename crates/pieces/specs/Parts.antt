@@ -11,6 +11,7 @@ use Rattle.sibson.specs.Element.{column}
 use Rattle.readings.specs.Bounds.{listed}
 use Rattle.pieces.specs.declared.Piece as held
 
+-- pieces 0 to 3, as the code names them
 unfoldable pub pieceOf : held.Piece → Piece
 pieceOf held.the-variants.Top = top
 pieceOf held.the-variants.Right = right

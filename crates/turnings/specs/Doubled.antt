@@ -12,6 +12,6 @@ use Rattle.readings.specs.Bounds.{largest, listed, size}
 unfoldable pub halves : List ℤ → Cubic
 halves k = cubicOf (λ p. getD k (column p) (pos 0)) (positive 2 tt)
 
--- without their signs they add up to no more than those of a piece can
+-- what 64 bits are enough for: without their signs they add up to at most 256 times the largest corner number, as those of every piece do (`Joined`)
 pub record Sized (k : List ℤ) : Type 0 where
   pub sum : size (listed (halves k)) ≤ 256 * largest
