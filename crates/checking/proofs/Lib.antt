@@ -1,0 +1,4 @@
+pub mod Gathered
+pub mod Lines
+pub mod Numbers
+pub mod Verdicts

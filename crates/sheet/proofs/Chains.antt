@@ -1,0 +1,120 @@
+-- What the refusals compute to: a chain of tests, and each call's from the checks that it shares with others. Assumes nothing.
+use Prim.Native.Nat.{ℕ, suc, _<_}
+use mathlib.Core.Path.{_≡_, refl, sym, _∙_}
+use mathlib.Core.List.{List, [], _∷_, _++_}
+use mathlib.Core.Bool.{Bool, true, false, cond, _&&_, _||_, true≢false}
+use native.Mathlib.Omega.{arith}
+use lib.Dec.{T, eqb, ltb, leb, ltb→lt}
+use borrow.Author.Tests.{eqb-true, eqb-false, leb-false, eq-eqb, ne-eqb, lt-leb, not-false}
+use Rattle.integers.proofs.Deduce.{both}
+use Rattle.sheet.specs.Format.{columns, rows, Node, nodeIn}
+use Rattle.sheet.specs.Refusals.{Input, Row, row, otherMark, otherVersion, otherCounts, otherLength, wrongLines, wrongNodes, noNode, wrongNumbers, table, first, member, part, sheetChecks, lookupChecks, zeroNode, atNode, checkRefusal, lookupRefusal, settingRefusal, Accepted}
+use Rattle.sheet.specs.Laws.{Each}
+
+pub check-is : (s : List ℕ)
+    → checkRefusal s ≡ cond (otherMark s) 1 (cond (otherVersion s) 2 (cond (otherCounts s) 3 (cond (otherLength s) 4 (cond (wrongLines s) 5 (cond (wrongNodes s) 6 0)))))
+unfolding checkRefusal table first member part
+check-is s = refl
+
+-- ---- further checks behind those of t
+
+abbrev pub Numbered : List Row → Type 0
+Numbered t = Each (λ r. r .number ≡ 0 → ⊥) t
+
+-- no row of the table has the number 0, by a test of the whole table
+positive : List Row → Bool
+positive [] = true
+positive (r ∷ t) = ltb 0 (r .number) && positive t
+
+positive-sound : (t : List Row) → T (positive t) → Numbered t
+unfolding positive
+positive-sound [] h = tt
+positive-sound (r ∷ t) h = let p = both (ltb 0 (r .number)) (positive t) h in let k = ltb→lt 0 (r .number) (p .0) in ((λ e. omega arith), positive-sound t (p .1))
+
+pub numbered-part : (ks : List ℕ) (t : List Row) → Numbered t → Numbered (part ks t)
+unfolding part
+numbered-part ks [] h = tt
+numbered-part ks (r ∷ t) h = by (member (r .number) ks) (numbered-part ks t (h .1))
+  where
+    by : (b : Bool) → Numbered (part ks t) → Numbered (cond b (r ∷ part ks t) (part ks t))
+    by true n = (h .0, n)
+    by false n = n
+
+pub numbered : Numbered table
+unfolding positive table
+numbered = positive-sound table tt
+
+-- n where it is not 0, else what further checks give
+abbrev pub orElse : ℕ → ℕ → ℕ
+orElse n k = cond (eqb n 0) k n
+
+first-append : (t more : List Row) (u : Input) → Numbered t → first (t ++ more) u ≡ orElse (first t u) (first more u)
+unfolding first
+first-append [] more u h = refl
+first-append (r ∷ t) more u h = by (r .condition u) (first-append t more u (h .1))
+  where
+    by : (b : Bool) → first (t ++ more) u ≡ orElse (first t u) (first more u)
+        → cond b (r .number) (first (t ++ more) u) ≡ orElse (cond b (r .number) (first t u)) (first more u)
+    by true e = rw (ne-eqb (r .number) 0 (h .0)) refl
+    by false e = e
+
+zero-or : (n k : ℕ) → n ≡ 0 → orElse n k ≡ k
+zero-or n k e = rw (eq-eqb n 0 e) refl
+
+pub refused-or : (n k : ℕ) → (n ≡ 0 → ⊥) → orElse n k ≡ n
+refused-or n k h = rw (ne-eqb n 0 h) refl
+
+-- both are 0
+or-zero : (n k : ℕ) → orElse n k ≡ 0 → (n ≡ 0) × (k ≡ 0)
+or-zero n k e = by (eqb n 0) refl
+  where
+    by : (b : Bool) → eqb n 0 ≡ b → (n ≡ 0) × (k ≡ 0)
+    by true q = (eqb-true n 0 q, sym (zero-or n k (eqb-true n 0 q)) ∙ e)
+    by false q = absurd (eqb-false n 0 q (sym (refused-or n k (eqb-false n 0 q)) ∙ e))
+
+-- neither holds
+pub or-false : (a b : Bool) → a || b ≡ false → (a ≡ false) × (b ≡ false)
+or-false true b e = absurd (true≢false e)
+or-false false b e = (refl, e)
+
+-- ---- looking up is refused as checking is, then by 10; setting as looking up, then by 11
+
+pub lookup-is : (s : List ℕ) (i j : ℕ) → lookupRefusal s i j ≡ orElse (checkRefusal s) (cond (noNode s i j) 10 0)
+unfolding lookupRefusal checkRefusal table first member part
+lookup-is s i j = first-append (part sheetChecks table) (row 10 (λ u. noNode (u .sheet) (u .column) (u .row)) ∷ []) (atNode s i j zeroNode) (numbered-part sheetChecks table numbered)
+
+pub setting-is : (s : List ℕ) (i j : ℕ) (v : Node) → settingRefusal s i j v ≡ orElse (lookupRefusal s i j) (cond (wrongNumbers v) 11 0)
+unfolding settingRefusal lookupRefusal table first member part
+setting-is s i j v = first-append (part lookupChecks table) (row 11 (λ u. wrongNumbers (u .numbers)) ∷ []) (atNode s i j v) (numbered-part lookupChecks table numbered)
+
+-- ---- what a call that is not refused says of its input, and the other way round
+
+not-given : (b : Bool) (n : ℕ) → cond b (suc n) 0 ≡ 0 → b ≡ false
+not-given true n e = absurd (omega arith)
+not-given false n e = refl
+
+pub record HasNode (s : List ℕ) (i j : ℕ) : Type 0 where
+  pub accepted : Accepted s
+  pub column : i < columns s
+  pub row : j < rows s
+
+pub lookup-held : (s : List ℕ) (i j : ℕ) → lookupRefusal s i j ≡ 0 → HasNode s i j
+unfolding Accepted noNode
+lookup-held s i j e =
+    let h = or-zero _ _ (sym (lookup-is s i j) ∙ e) in
+    let n = or-false (leb (columns s) i) _ (not-given (noNode s i j) 9 (h .1)) in
+    record { accepted = h .0; column = leb-false _ _ (n .0); row = leb-false _ _ (n .1) }
+
+pub lookup-taken : {s : List ℕ} {i j : ℕ} → HasNode s i j → lookupRefusal s i j ≡ 0
+unfolding Accepted noNode
+lookup-taken {s} {i} {j} h =
+    lookup-is s i j ∙ zero-or (checkRefusal s) _ (h .accepted) ∙ rw (lt-leb (columns s) i (h .column), lt-leb (rows s) j (h .row)) refl
+
+pub setting-held : (s : List ℕ) (i j : ℕ) (v : Node) → settingRefusal s i j v ≡ 0 → HasNode s i j × (nodeIn v ≡ true)
+unfolding wrongNumbers
+setting-held s i j v e =
+    let h = or-zero _ _ (sym (setting-is s i j v) ∙ e) in (lookup-held s i j (h .0), not-false _ (not-given (wrongNumbers v) 10 (h .1)))
+
+pub setting-taken : {s : List ℕ} {i j : ℕ} (v : Node) → HasNode s i j → nodeIn v ≡ true → settingRefusal s i j v ≡ 0
+unfolding wrongNumbers
+setting-taken {s} {i} {j} v h e = setting-is s i j v ∙ zero-or (lookupRefusal s i j) _ (lookup-taken h) ∙ rw e refl

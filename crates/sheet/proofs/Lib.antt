@@ -1,0 +1,12 @@
+pub mod Chains
+pub mod Some
+pub mod Meaning
+pub mod FirstHolds
+pub mod Ranges
+pub mod WellFormed
+pub mod Encoding
+pub mod Offsets
+pub mod SameFront
+pub mod Written
+pub mod Setting
+pub mod Examples

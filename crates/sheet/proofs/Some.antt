@@ -1,0 +1,30 @@
+-- The laws of `some`: it is false exactly when the test is false of every number below n. Assumes nothing.
+use Prim.Native.Nat.{ℕ, zero, suc, _<_}
+use mathlib.Core.Path.{_≡_, refl}
+use mathlib.Core.Logic.{⊎-elim}
+use mathlib.Core.Bool.{Bool, false, _||_}
+use native.Mathlib.Nat.{le-of-suc-le-suc, le-step, lt-suc-self, eq-or-lt-of-le}
+use native.Mathlib.Omega.{arith}
+use Rattle.sheet.specs.Refusals.{some}
+use Rattle.sheet.proofs.Chains.{or-false}
+
+module _ (p : ℕ → Bool) where
+  pub some-none : some p 0 ≡ false
+  unfolding some
+  some-none = refl
+
+  pub some-more : (k : ℕ) → some p (suc k) ≡ (some p k || p k)
+  unfolding some
+  some-more k = refl
+
+  pub some-false-at : (n : ℕ) → some p n ≡ false → (k : ℕ) → k < n → p k ≡ false
+  unfolding some
+  some-false-at zero e k l = absurd (omega arith)
+  some-false-at (suc n) e k l =
+      let h = or-false (some p n) (p n) e in
+      ⊎-elim (λ q. rw q (h .1)) (some-false-at n (h .0) k) (eq-or-lt-of-le (le-of-suc-le-suc l))
+
+  pub some-false : (n : ℕ) → ((k : ℕ) → k < n → p k ≡ false) → some p n ≡ false
+  unfolding some
+  some-false zero h = refl
+  some-false (suc n) h = rw (some-false n (λ k l. h k (le-step l))) (h n (lt-suc-self n))

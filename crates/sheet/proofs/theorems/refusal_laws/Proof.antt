@@ -1,0 +1,7 @@
+use mathlib.Core.Path.{refl}
+use Rattle.sheet.proofs.FirstHolds.{refusal-laws}
+use Rattle.sheet.proofs.theorems.refusal_laws.Statement.{statement}
+use Rattle.sheet.proofs.theorems.refusal_laws.Tie as tie
+
+pub refusal-laws-spec : {M : Type 1} → statement M
+refusal-laws-spec = tie.close (tie.spec (λ c. (refl, refusal-laws)))

@@ -1,0 +1,34 @@
+// Theorems that belong to no function. Each is the contract of one that returns 0, so that the gate asks for its proof.
+ghost use mathlib.Core.Path.{_≡_};
+ghost use Rattle.sheet.specs.Laws.{RefusalLaws, AcceptedLaws, NodeLaws, SettingLaws};
+ghost use Rattle.sheet.specs.Examples.{Examples};
+
+pub fn refusal_laws() -> u64
+    ensures { λ r. ⌜ (r ≡ 0) × RefusalLaws ⌝ }
+{
+    0
+}
+
+pub fn accepted_laws() -> u64
+    ensures { λ r. ⌜ (r ≡ 0) × AcceptedLaws ⌝ }
+{
+    0
+}
+
+pub fn node_laws() -> u64
+    ensures { λ r. ⌜ (r ≡ 0) × NodeLaws ⌝ }
+{
+    0
+}
+
+pub fn setting_laws() -> u64
+    ensures { λ r. ⌜ (r ≡ 0) × SettingLaws ⌝ }
+{
+    0
+}
+
+pub fn examples() -> u64
+    ensures { λ r. ⌜ (r ≡ 0) × Examples ⌝ }
+{
+    0
+}
