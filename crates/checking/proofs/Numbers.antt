@@ -11,7 +11,7 @@ use borrow.Author.Tests.{leb-true, le-leb, lt-leb}
 use Rattle.integers.proofs.Order.{cond-ind}
 use Rattle.words.specs.Word.{byteAt, wordAt, signed}
 use Rattle.words.proofs.Replaced.{stretch-byte}
-use Rattle.sheet.specs.Format.{columns, rows, decoded, heightIn, slopeIn, nodeIn, nodes, nodeSize, nodeOffset, nodeBytes, nodeAt}
+use Rattle.sheet.specs.Format.{columns, rows, decoded, heightIn, slopeIn, nodeIn, nodesOffset, nodeSize, nodeOffset, nodeBytes, nodeAt}
 use Rattle.sheet.specs.Refusals.{some, wrongNodes}
 use Rattle.checking.proofs.Gathered.{some-cong, some-rows, or-none}
 
@@ -45,14 +45,14 @@ not-and false b c = refl
 module _ (s : List ℕ) where
   -- number k of all is out of range
   abbrev pub wrongNumber : ℕ → Bool
-  wrongNumber k = not (slopeIn (signed (wordAt s (nodes s + 2 * k))))
+  wrongNumber k = not (slopeIn (signed (wordAt s (nodesOffset s + 2 * k))))
 
   module _ (i j : ℕ) where
     -- the k-th of a node's numbers, among those of all nodes
-    node-word : (k w : ℕ) → 2 * k ≡ w → w + 1 < nodeSize → wordAt (nodeBytes s i j) w ≡ wordAt s (nodes s + 2 * ((j * columns s + i) * 3 + k))
+    node-word : (k w : ℕ) → 2 * k ≡ w → w + 1 < nodeSize → wordAt (nodeBytes s i j) w ≡ wordAt s (nodesOffset s + 2 * ((j * columns s + i) * 3 + k))
     node-word k w e h =
-        let low : nodeOffset s i j + w ≡ nodes s + 2 * ((j * columns s + i) * 3 + k) = omega (arith, e) in
-        let high : nodeOffset s i j + (w + 1) ≡ nodes s + 2 * ((j * columns s + i) * 3 + k) + 1 = omega (arith, e) in
+        let low : nodeOffset s i j + w ≡ nodesOffset s + 2 * ((j * columns s + i) * 3 + k) = omega (arith, e) in
+        let high : nodeOffset s i j + (w + 1) ≡ nodesOffset s + 2 * ((j * columns s + i) * 3 + k) + 1 = omega (arith, e) in
         let a = stretch-byte s _ nodeSize w (omega (arith, h)) ∙ ap (byteAt s) low in
         let b = stretch-byte s _ nodeSize (w + 1) h ∙ ap (byteAt s) high in
         λ t. a t + b t * 256

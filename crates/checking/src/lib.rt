@@ -4,7 +4,7 @@ ghost use mathlib.Core.Bool.{false, not};
 ghost use Prim.Native.Nat.{_+_, _*_, _≤_, _<_};
 ghost use lib.ListN.{length};
 ghost use Rattle.words.specs.Word.{wordAt, signed};
-ghost use Rattle.sheet.specs.Format.{headerSize, columns, rows, counted, slopeIn, sizeOf};
+ghost use Rattle.sheet.specs.Format.{headerSize, columns, rows, countIn, slopeIn, sizeOf};
 ghost use Rattle.sheet.specs.Refusals.{some, otherMark, otherVersion, otherCounts, otherLength, wrongStep, wrongLine, wrongLines, wrongNodes, checkRefusal};
 use words::wide;
 use words::word;
@@ -66,7 +66,7 @@ fn other_counts(sheet: &[u8]) -> bool
 }
 
 fn in_counts(n: u8) -> bool
-    ensures { λ r. ⌜ r ≡ counted n ⌝ }
+    ensures { λ r. ⌜ r ≡ countIn n ⌝ }
 {
     (2 <= n) & (n <= 65)
 }

@@ -8,7 +8,7 @@ use lib.Dec.{T, eqb, ltb, leb, ltb→lt}
 use borrow.Author.Tests.{eqb-true, eqb-false, leb-false, eq-eqb, ne-eqb, lt-leb, not-false}
 use Rattle.integers.proofs.Deduce.{both}
 use Rattle.sheet.specs.Format.{columns, rows, Node, nodeIn}
-use Rattle.sheet.specs.Refusals.{Input, Row, row, otherMark, otherVersion, otherCounts, otherLength, wrongLines, wrongNodes, noNode, wrongNumbers, table, first, member, part, sheetChecks, lookupChecks, zeroNode, atNode, checkRefusal, lookupRefusal, settingRefusal, Accepted}
+use Rattle.sheet.specs.Refusals.{Input, Rule, rule, otherMark, otherVersion, otherCounts, otherLength, wrongLines, wrongNodes, noNode, wrongNumbers, table, first, member, part, sheetChecks, lookupChecks, zeroNode, atNode, checkRefusal, lookupRefusal, settingRefusal, Accepted}
 use Rattle.sheet.specs.Laws.{Each}
 
 pub check-is : (s : List ℕ)
@@ -18,20 +18,20 @@ check-is s = refl
 
 -- ---- further checks behind those of t
 
-abbrev pub Numbered : List Row → Type 0
+abbrev pub Numbered : List Rule → Type 0
 Numbered t = Each (λ r. r .number ≡ 0 → ⊥) t
 
--- no row of the table has the number 0, by a test of the whole table
-positive : List Row → Bool
+-- no rule of the table has the number 0, by a test of the whole table
+positive : List Rule → Bool
 positive [] = true
 positive (r ∷ t) = ltb 0 (r .number) && positive t
 
-positive-sound : (t : List Row) → T (positive t) → Numbered t
+positive-sound : (t : List Rule) → T (positive t) → Numbered t
 unfolding positive
 positive-sound [] h = tt
 positive-sound (r ∷ t) h = let p = both (ltb 0 (r .number)) (positive t) h in let k = ltb→lt 0 (r .number) (p .0) in ((λ e. omega arith), positive-sound t (p .1))
 
-pub numbered-part : (ks : List ℕ) (t : List Row) → Numbered t → Numbered (part ks t)
+pub numbered-part : (ks : List ℕ) (t : List Rule) → Numbered t → Numbered (part ks t)
 unfolding part
 numbered-part ks [] h = tt
 numbered-part ks (r ∷ t) h = by (member (r .number) ks) (numbered-part ks t (h .1))
@@ -48,7 +48,7 @@ numbered = positive-sound table tt
 abbrev pub orElse : ℕ → ℕ → ℕ
 orElse n k = cond (eqb n 0) k n
 
-first-append : (t more : List Row) (u : Input) → Numbered t → first (t ++ more) u ≡ orElse (first t u) (first more u)
+first-append : (t more : List Rule) (u : Input) → Numbered t → first (t ++ more) u ≡ orElse (first t u) (first more u)
 unfolding first
 first-append [] more u h = refl
 first-append (r ∷ t) more u h = by (r .condition u) (first-append t more u (h .1))
@@ -81,11 +81,11 @@ or-false false b e = (refl, e)
 
 pub lookup-is : (s : List ℕ) (i j : ℕ) → lookupRefusal s i j ≡ orElse (checkRefusal s) (cond (noNode s i j) 10 0)
 unfolding lookupRefusal checkRefusal table first member part
-lookup-is s i j = first-append (part sheetChecks table) (row 10 (λ u. noNode (u .sheet) (u .column) (u .row)) ∷ []) (atNode s i j zeroNode) (numbered-part sheetChecks table numbered)
+lookup-is s i j = first-append (part sheetChecks table) (rule 10 (λ u. noNode (u .sheet) (u .column) (u .row)) ∷ []) (atNode s i j zeroNode) (numbered-part sheetChecks table numbered)
 
 pub setting-is : (s : List ℕ) (i j : ℕ) (v : Node) → settingRefusal s i j v ≡ orElse (lookupRefusal s i j) (cond (wrongNumbers v) 11 0)
 unfolding settingRefusal lookupRefusal table first member part
-setting-is s i j v = first-append (part lookupChecks table) (row 11 (λ u. wrongNumbers (u .numbers)) ∷ []) (atNode s i j v) (numbered-part lookupChecks table numbered)
+setting-is s i j v = first-append (part lookupChecks table) (rule 11 (λ u. wrongNumbers (u .numbers)) ∷ []) (atNode s i j v) (numbered-part lookupChecks table numbered)
 
 -- ---- what a call that is not refused says of its input, and the other way round
 

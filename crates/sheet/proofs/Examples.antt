@@ -2,17 +2,17 @@
 use mathlib.Core.Path.{_≡_, refl}
 use mathlib.Core.List.{map}
 use Rattle.words.specs.Word.{signed, bitsOf, bytesOf}
-use Rattle.sheet.specs.Format.{marked, known, counted, decoded, encoded, heightIn, slopeIn, nodeIn, nodeAt, height, slopeX, slopeY}
+use Rattle.sheet.specs.Format.{marked, supported, countIn, decoded, encoded, heightIn, slopeIn, nodeIn, nodeAt, height, slopeX, slopeY}
 use Rattle.sheet.specs.Refusals.{some, otherMark, otherVersion, otherCounts, otherLength, wrongStep, wrongLine, wrongLines, wrongNodes, outside, offMesh, emptyRun, otherKind, noNode, wrongNumbers, table, first, member, part, checkRefusal, lookupRefusal, settingRefusal, readingRefusal, runRefusal}
 use Rattle.sheet.specs.Calls.{lookedUp, withNode}
 use Rattle.sheet.specs.Examples.{checked, Examples}
 
 checks : map (λ e. checkRefusal (e .sheet)) checked ≡ map (λ e. e .gives) checked
-unfolding signed marked known counted decoded heightIn slopeIn nodeIn nodeAt some otherMark otherVersion otherCounts otherLength wrongStep wrongLine wrongLines wrongNodes table first member part checkRefusal
+unfolding signed marked supported countIn decoded heightIn slopeIn nodeIn nodeAt some otherMark otherVersion otherCounts otherLength wrongStep wrongLine wrongLines wrongNodes table first member part checkRefusal
 checks = refl
 
 pub examples : Examples
-unfolding signed bitsOf bytesOf marked known counted decoded encoded heightIn slopeIn nodeIn nodeAt height slopeX slopeY some otherMark otherVersion otherCounts otherLength wrongStep wrongLine wrongLines wrongNodes outside offMesh emptyRun otherKind noNode wrongNumbers table first member part lookupRefusal settingRefusal readingRefusal runRefusal lookedUp withNode
+unfolding signed bitsOf bytesOf marked supported countIn decoded encoded heightIn slopeIn nodeIn nodeAt height slopeX slopeY some otherMark otherVersion otherCounts otherLength wrongStep wrongLine wrongLines wrongNodes outside offMesh emptyRun otherKind noNode wrongNumbers table first member part lookupRefusal settingRefusal readingRefusal runRefusal lookedUp withNode
 examples = record {
   checks = checks;
   corner = refl;

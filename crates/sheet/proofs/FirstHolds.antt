@@ -3,22 +3,22 @@ use Prim.Native.Nat.{ℕ}
 use mathlib.Core.Path.{_≡_, refl, sym, _∙_, ap}
 use mathlib.Core.List.{List, [], _∷_, _++_}
 use mathlib.Core.Bool.{Bool, true, false, cond}
-use Rattle.sheet.specs.Refusals.{Input, Row, table, first, member, part}
+use Rattle.sheet.specs.Refusals.{Input, Rule, table, first, member, part}
 use Rattle.sheet.specs.Laws.{Fails, Each, FirstToHold, RefusalLaws}
 use Rattle.sheet.proofs.Chains.{Numbered, numbered, numbered-part}
 
 -- ---- a number is given
 
-first-holding : (before : List Row) (r : Row) (after : List Row) (u : Input) → Each (Fails u) before → r .condition u ≡ true
+first-holding : (before : List Rule) (r : Rule) (after : List Rule) (u : Input) → Each (Fails u) before → r .condition u ≡ true
     → first (before ++ r ∷ after) u ≡ r .number
 unfolding first
 first-holding [] r after u f c = rw c refl
 first-holding (b ∷ before) r after u f c = rw (f .0) (first-holding before r after u (f .1) c)
 
-given : (t : List Row) (u : Input) (n : ℕ) → FirstToHold t u n → first t u ≡ n
+given : (t : List Rule) (u : Input) (n : ℕ) → FirstToHold t u n → first t u ≡ n
 given t u n h = rw (h .listed) (first-holding (h .before) (h .at) (h .after) u (h .earlier) (h .holds) ∙ h .numbered)
 
-after-failing : (r : Row) {t : List Row} {u : Input} {n : ℕ} → Fails u r → FirstToHold t u n → FirstToHold (r ∷ t) u n
+after-failing : (r : Rule) {t : List Rule} {u : Input} {n : ℕ} → Fails u r → FirstToHold t u n → FirstToHold (r ∷ t) u n
 after-failing r f h = record {
   before = r ∷ h .before;
   at = h .at;
@@ -29,7 +29,7 @@ after-failing r f h = record {
   earlier = (f, h .earlier);
 }
 
-only : (t : List Row) (u : Input) (n : ℕ) → (n ≡ 0 → ⊥) → first t u ≡ n → FirstToHold t u n
+only : (t : List Rule) (u : Input) (n : ℕ) → (n ≡ 0 → ⊥) → first t u ≡ n → FirstToHold t u n
 unfolding first
 only [] u n h e = absurd (h (sym e))
 only (r ∷ t) u n h e = by (r .condition u) refl (only t u n h) e
@@ -40,12 +40,12 @@ only (r ∷ t) u n h e = by (r .condition u) refl (only t u n h) e
 
 -- ---- none is given
 
-pub none-given : (t : List Row) (u : Input) → Each (Fails u) t → first t u ≡ 0
+pub none-given : (t : List Rule) (u : Input) → Each (Fails u) t → first t u ≡ 0
 unfolding first
 none-given [] u f = refl
 none-given (r ∷ t) u f = rw (f .0) (none-given t u (f .1))
 
-none-holds : (t : List Row) (u : Input) → Numbered t → first t u ≡ 0 → Each (Fails u) t
+none-holds : (t : List Rule) (u : Input) → Numbered t → first t u ≡ 0 → Each (Fails u) t
 unfolding first
 none-holds [] u h e = tt
 none-holds (r ∷ t) u h e = by (r .condition u) refl (none-holds t u (h .1)) e

@@ -5,7 +5,7 @@ use mathlib.Core.List.{List}
 use native.Mathlib.Omega.{arith}
 use lib.ListN.{length}
 use Rattle.words.specs.Word.{byteAt, wordAt}
-use Rattle.sheet.specs.Format.{columns, rows, linesX, linesY, lineX, lineY, nodes, decoded, nodeSize, nodeOffset, nodeAt}
+use Rattle.sheet.specs.Format.{columns, rows, xLinesOffset, yLinesOffset, lineX, lineY, nodesOffset, decoded, nodeSize, nodeOffset, nodeAt}
 use Rattle.sheet.specs.Laws.{Rising, InRange, WellFormed}
 use Rattle.words.proofs.Replaced.{stretch-byte}
 
@@ -25,7 +25,7 @@ same-rising line line′ n same r =
     }
 
 pub record SameFront (s t : List ℕ) : Type 0 where
-  pub bytes : (k : ℕ) → k < nodes s → byteAt t k ≡ byteAt s k
+  pub bytes : (k : ℕ) → k < nodesOffset s → byteAt t k ≡ byteAt s k
 
 module _ {s t : List ℕ} (same : SameFront s t) where
   pub same-columns : columns t ≡ columns s
@@ -34,14 +34,14 @@ module _ {s t : List ℕ} (same : SameFront s t) where
   pub same-rows : rows t ≡ rows s
   same-rows = same .bytes 6 (omega arith)
 
-  front-word : (k : ℕ) → k + 1 < nodes s → wordAt t k ≡ wordAt s k
-  front-word = same-word t s (nodes s) (same .bytes)
+  front-word : (k : ℕ) → k + 1 < nodesOffset s → wordAt t k ≡ wordAt s k
+  front-word = same-word t s (nodesOffset s) (same .bytes)
 
   pub same-lineX : (k : ℕ) → k < columns s → lineX t k ≡ lineX s k
-  same-lineX k h = front-word (linesX + 2 * k) (omega arith)
+  same-lineX k h = front-word (xLinesOffset + 2 * k) (omega arith)
 
   pub same-lineY : (k : ℕ) → k < rows s → lineY t k ≡ lineY s k
-  same-lineY k h = rw same-columns (front-word (linesY s + 2 * k) (omega arith))
+  same-lineY k h = rw same-columns (front-word (yLinesOffset s + 2 * k) (omega arith))
 
   pub same-offset : (i j : ℕ) → nodeOffset t i j ≡ nodeOffset s i j
   same-offset i j = rw (same-columns, same-rows) refl

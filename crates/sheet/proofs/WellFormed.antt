@@ -8,7 +8,7 @@ use native.Mathlib.Nat.{mul-le-mul}
 use native.Mathlib.Omega.{arith}
 use lib.ListN.{length}
 use Rattle.words.specs.Word.{byteAt}
-use Rattle.sheet.specs.Format.{headerSize, marked, version, known, columns, rows, counted, reserved, lineX, lineY, nodeAt, sizeOf}
+use Rattle.sheet.specs.Format.{headerSize, marked, version, supported, columns, rows, countIn, reserved, lineX, lineY, nodeAt, sizeOf}
 use Rattle.sheet.specs.Refusals.{otherMark, otherVersion, otherCounts, otherLength, wrongLines, wrongNodes, table, member, part, sheetChecks, atPixel, checkRefusal, Accepted}
 use Rattle.sheet.specs.Laws.{Rising, InRange, WellFormed, AcceptedLaws}
 use Rattle.sheet.proofs.Meaning.{ltb-fails, not-fails, or-fails, some-fails, leb-holds, eqb-holds, and-holds}
@@ -19,9 +19,9 @@ use Rattle.sheet.proofs.Ranges.{lines-rise, node-in}
 abbrev pub Counted : ℕ → Type 0
 Counted n = (2 ≤ n) × (n ≤ 65)
 
-counted-holds : (n : ℕ) → (counted n ≡ true) ↔ Counted n
-unfolding counted
-counted-holds n = and-holds (leb-holds 2 n) (leb-holds n 65)
+count-in : (n : ℕ) → (countIn n ≡ true) ↔ Counted n
+unfolding countIn
+count-in n = and-holds (leb-holds 2 n) (leb-holds n 65)
 
 -- ---- what each of the six tests says where it fails
 
@@ -33,12 +33,12 @@ module _ (s : List ℕ) where
       (not-fails (and-holds (and-holds (eqb-holds (byteAt s 0) 0x4C) (eqb-holds (byteAt s 1) 0x56)) (eqb-holds (byteAt s 2) 0x53)))
 
   version-right : (otherVersion s ≡ false) ↔ (version s ≡ 1)
-  unfolding otherVersion known
+  unfolding otherVersion supported
   version-right = not-fails (eqb-holds (version s) 1)
 
   pub counts-right : (otherCounts s ≡ false) ↔ ((Counted (columns s) × Counted (rows s)) × (reserved s ≡ 0))
   unfolding otherCounts
-  counts-right = or-fails (or-fails (not-fails (counted-holds (columns s))) (not-fails (counted-holds (rows s)))) (not-fails (eqb-holds (reserved s) 0))
+  counts-right = or-fails (or-fails (not-fails (count-in (columns s))) (not-fails (count-in (rows s)))) (not-fails (eqb-holds (reserved s) 0))
 
   pub length-right : (otherLength s ≡ false) ↔ (length s ≡ sizeOf (columns s) (rows s))
   unfolding otherLength

@@ -22,8 +22,8 @@ abbrev pub version : List ℕ → ℕ
 version s = wordAt s 3
 
 -- the versions that are read
-unfoldable pub known : ℕ → Bool
-known v = eqb v 1
+unfoldable pub supported : ℕ → Bool
+supported v = eqb v 1
 
 -- vertical lines: 01's m
 abbrev pub columns : List ℕ → ℕ
@@ -34,8 +34,8 @@ abbrev pub rows : List ℕ → ℕ
 rows s = byteAt s 6
 
 -- how many lines an axis may have
-unfoldable pub counted : ℕ → Bool
-counted n = leb 2 n && leb n 65
+unfoldable pub countIn : ℕ → Bool
+countIn n = leb 2 n && leb n 65
 
 -- a byte that is 0
 abbrev pub reserved : List ℕ → ℕ
@@ -44,19 +44,19 @@ reserved s = byteAt s 7
 -- ---- the lines of the mesh
 
 -- where the vertical lines' x-positions start, and the horizontal lines' y-positions
-abbrev pub linesX : ℕ
-linesX = headerSize
+abbrev pub xLinesOffset : ℕ
+xLinesOffset = headerSize
 
-abbrev pub linesY : List ℕ → ℕ
-linesY s = linesX + 2 * columns s
+abbrev pub yLinesOffset : List ℕ → ℕ
+yLinesOffset s = xLinesOffset + 2 * columns s
 
 -- the x-position of vertical line i
 abbrev pub lineX : List ℕ → ℕ → ℕ
-lineX s i = wordAt s (linesX + 2 * i)
+lineX s i = wordAt s (xLinesOffset + 2 * i)
 
 -- the y-position of horizontal line j
 abbrev pub lineY : List ℕ → ℕ → ℕ
-lineY s j = wordAt s (linesY s + 2 * j)
+lineY s j = wordAt s (yLinesOffset s + 2 * j)
 
 -- no line lies further
 abbrev pub furthest : ℕ
@@ -106,12 +106,12 @@ unfoldable pub nodeIn : Node → Bool
 nodeIn v = heightIn (v .storedHeight) && slopeIn (v .slopeX) && slopeIn (v .slopeY)
 
 -- where the nodes start; they lie row by row
-abbrev pub nodes : List ℕ → ℕ
-nodes s = linesY s + 2 * rows s
+abbrev pub nodesOffset : List ℕ → ℕ
+nodesOffset s = yLinesOffset s + 2 * rows s
 
 -- where the node at column i and row j starts
 abbrev pub nodeOffset : List ℕ → ℕ → ℕ → ℕ
-nodeOffset s i j = nodes s + nodeSize * (j * columns s + i)
+nodeOffset s i j = nodesOffset s + nodeSize * (j * columns s + i)
 
 abbrev pub nodeBytes : List ℕ → ℕ → ℕ → List ℕ
 nodeBytes s i j = take nodeSize (drop (nodeOffset s i j) s)

@@ -7,13 +7,13 @@ use lib.ListN.{length}
 use Rattle.integers.specs.Within.{_within_}
 use Rattle.words.specs.Word.{byteAt, Bytes}
 use Rattle.sheet.specs.Format.{version, columns, rows, lineX, lineY, Node, decoded, encoded, nodeIn, nodeSize, nodeOffset, nodeAt}
-use Rattle.sheet.specs.Refusals.{Input, Row, table, first, part, sheetChecks, lookupChecks, settingChecks, readingChecks, runChecks, lookupRefusal, settingRefusal, Accepted}
+use Rattle.sheet.specs.Refusals.{Input, Rule, table, first, part, sheetChecks, lookupChecks, settingChecks, readingChecks, runChecks, lookupRefusal, settingRefusal, Accepted}
 use Rattle.sheet.specs.Calls.{lookedUp, bytesIn, withNode}
 
 -- ---- refusals
 
--- the row's condition does not hold
-abbrev pub Fails : Input → Row → Type 0
+-- the rule's condition does not hold
+abbrev pub Fails : Input → Rule → Type 0
 Fails u r = r .condition u ≡ false
 
 -- P of every element
@@ -21,21 +21,21 @@ abbrev pub Each : {A : Type 0} → (A → Type 0) → List A → Type 0
 Each P [] = Unit {0}
 Each P (x ∷ xs) = P x × Each P xs
 
--- n is the number of the row of t that is the first in order to hold
-pub record FirstToHold (t : List Row) (u : Input) (n : ℕ) : Type 0 where
-  pub before : List Row
-  pub at : Row
-  pub after : List Row
+-- n is the number of the rule of t that is the first in order to hold
+pub record FirstToHold (t : List Rule) (u : Input) (n : ℕ) : Type 0 where
+  pub before : List Rule
+  pub at : Rule
+  pub after : List Rule
   pub listed : t ≡ before ++ at ∷ after
   pub numbered : at .number ≡ n
   pub holds : at .condition u ≡ true
   pub earlier : Each (Fails u) before
 
--- a number is given when its condition is the first in order to hold, and then only, whatever the rows; 0 when none holds, and, of the table's rows, then only
+-- a number is given when its condition is the first in order to hold, and then only, whatever the rules; 0 when none holds, and, of the table's rules, then only
 pub record RefusalLaws : Type 0 where
-  pub given : (t : List Row) (u : Input) (n : ℕ) → FirstToHold t u n → first t u ≡ n
-  pub only : (t : List Row) (u : Input) (n : ℕ) → (n ≡ 0 → ⊥) → first t u ≡ n → FirstToHold t u n
-  pub zero : (t : List Row) (u : Input) → Each (Fails u) t → first t u ≡ 0
+  pub given : (t : List Rule) (u : Input) (n : ℕ) → FirstToHold t u n → first t u ≡ n
+  pub only : (t : List Rule) (u : Input) (n : ℕ) → (n ≡ 0 → ⊥) → first t u ≡ n → FirstToHold t u n
+  pub zero : (t : List Rule) (u : Input) → Each (Fails u) t → first t u ≡ 0
   pub zeroOnly : (ks : List ℕ) (u : Input) → first (part ks table) u ≡ 0 → Each (Fails u) (part ks table)
   -- checks run in order of number; these are the checks that concern each call
   pub order : map (λ r. r .number) table ≡ 1 ∷ 2 ∷ 3 ∷ 4 ∷ 5 ∷ 6 ∷ 7 ∷ 8 ∷ 9 ∷ 10 ∷ 11 ∷ []

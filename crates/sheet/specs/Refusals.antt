@@ -7,7 +7,7 @@ use mathlib.Core.Bool.{Bool, false, cond, not, _&&_, _||_}
 use lib.ListN.{length}
 use lib.Dec.{ltb, leb, eqb}
 use lib.IntN.{pos}
-use Rattle.sheet.specs.Format.{headerSize, marked, version, known, columns, rows, counted, reserved, lineX, lineY, furthest, widest, Node, node, nodeIn, nodeAt, sizeOf}
+use Rattle.sheet.specs.Format.{headerSize, marked, version, supported, columns, rows, countIn, reserved, lineX, lineY, furthest, widest, Node, node, nodeIn, nodeAt, sizeOf}
 
 -- p holds of some number below n
 unfoldable pub some : (ℕ → Bool) → ℕ → Bool
@@ -22,11 +22,11 @@ otherMark s = ltb (length s) headerSize || not (marked s)
 
 -- 2: version is not 1
 unfoldable pub otherVersion : List ℕ → Bool
-otherVersion s = not (known (version s))
+otherVersion s = not (supported (version s))
 
 -- 3: m or n outside 2 to 65, or byte 7 is not 0
 unfoldable pub otherCounts : List ℕ → Bool
-otherCounts s = not (counted (columns s)) || not (counted (rows s)) || not (eqb (reserved s) 0)
+otherCounts s = not (countIn (columns s)) || not (countIn (rows s)) || not (eqb (reserved s) 0)
 
 -- 4: length is not the one stated
 unfoldable pub otherLength : List ℕ → Bool
@@ -88,31 +88,31 @@ pub record Input : Type 0 where
   pub count : ℕ
   pub kind : ℕ
 
--- a line of the table
-pub record Row : Type 0 where
+-- a line of the table: a numbered condition
+pub record Rule : Type 0 where
   pub number : ℕ
   pub condition : Input → Bool
 
-abbrev pub row : ℕ → (Input → Bool) → Row
-row n p = record { number = n; condition = p }
+abbrev pub rule : ℕ → (Input → Bool) → Rule
+rule n p = record { number = n; condition = p }
 
-unfoldable pub table : List Row
+unfoldable pub table : List Rule
 table =
-    row 1 (λ u. otherMark (u .sheet)) ∷
-    row 2 (λ u. otherVersion (u .sheet)) ∷
-    row 3 (λ u. otherCounts (u .sheet)) ∷
-    row 4 (λ u. otherLength (u .sheet)) ∷
-    row 5 (λ u. wrongLines (u .sheet)) ∷
-    row 6 (λ u. wrongNodes (u .sheet)) ∷
-    row 7 (λ u. offMesh (u .sheet) (u .x) (u .y) (u .count)) ∷
-    row 8 (λ u. emptyRun (u .count)) ∷
-    row 9 (λ u. otherKind (u .kind)) ∷
-    row 10 (λ u. noNode (u .sheet) (u .column) (u .row)) ∷
-    row 11 (λ u. wrongNumbers (u .numbers)) ∷
+    rule 1 (λ u. otherMark (u .sheet)) ∷
+    rule 2 (λ u. otherVersion (u .sheet)) ∷
+    rule 3 (λ u. otherCounts (u .sheet)) ∷
+    rule 4 (λ u. otherLength (u .sheet)) ∷
+    rule 5 (λ u. wrongLines (u .sheet)) ∷
+    rule 6 (λ u. wrongNodes (u .sheet)) ∷
+    rule 7 (λ u. offMesh (u .sheet) (u .x) (u .y) (u .count)) ∷
+    rule 8 (λ u. emptyRun (u .count)) ∷
+    rule 9 (λ u. otherKind (u .kind)) ∷
+    rule 10 (λ u. noNode (u .sheet) (u .column) (u .row)) ∷
+    rule 11 (λ u. wrongNumbers (u .numbers)) ∷
     []
 
--- the number of the first row whose condition holds, or 0
-unfoldable pub first : List Row → Input → ℕ
+-- the number of the first rule whose condition holds, or 0
+unfoldable pub first : List Rule → Input → ℕ
 first [] u = 0
 first (r ∷ t) u = cond (r .condition u) (r .number) (first t u)
 
@@ -122,8 +122,8 @@ unfoldable pub member : ℕ → List ℕ → Bool
 member n [] = false
 member n (k ∷ ks) = eqb n k || member n ks
 
--- the rows with these numbers, in the table's order
-unfoldable pub part : List ℕ → List Row → List Row
+-- the rules with these numbers, in the order of the table
+unfoldable pub part : List ℕ → List Rule → List Rule
 part ks [] = []
 part ks (r ∷ t) = cond (member (r .number) ks) (r ∷ part ks t) (part ks t)
 

@@ -1,5 +1,5 @@
 use mathlib.Core.Path.{refl}
-use Rattle.sheet.specs.Format.{known}
+use Rattle.sheet.specs.Format.{supported}
 use Rattle.sheet.specs.Refusals.{otherVersion}
 use borrow.Author.Needs.{needs}
 use Rattle.checking.proofs.other_version.Statement.{statement}
@@ -14,7 +14,7 @@ word-requires c κs = search needs
 
 -- src/lib.rt:46:1
 returns : tie.Need-returns
-unfolding otherVersion known
+unfolding otherVersion supported
 returns c = rw (c .word .ensures .0) refl
 
 pub other-version-spec : {M : Type 1} → statement M

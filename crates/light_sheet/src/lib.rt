@@ -1,0 +1,42 @@
+// The calls of a light sheet, for every input: no call has a `requires`, and each outcome is an equation over what the call is given.
+ghost use mathlib.Core.Path.{_≡_};
+ghost use Rattle.sheet.specs.Format.{node};
+ghost use Rattle.sheet.specs.Refusals.{checkRefusal, lookupRefusal, settingRefusal};
+ghost use Rattle.sheet.specs.Calls.{lookedUp, Part, withNode};
+
+// Checks a sheet: 0 where it is accepted, else the number of the first of the conditions 1 to 6 that holds.
+pub fn check(sheet: &[u8]) -> u32
+    ensures { λ r. ⌜ r ≡ checkRefusal (now (sheet .entry)) ⌝ }
+{
+    checking::check(sheet)
+}
+
+// Looks up the node at a column and row, from 0: its six bytes inside the sheet; or, refused, an empty part from the sheet's start.
+pub fn node(sheet: &[u8], column: u32, row: u32) -> &[u8]
+    ensures { λ r. ⌜ Part (sheet .entry) r (lookedUp (now (sheet .entry)) column row) ⌝ }
+{
+    nodes::node(sheet, column, row)
+}
+
+// The companion of `node`: the number that refuses it on the same input (1 to 6, 10), or 0.
+pub fn node_refusal(sheet: &[u8], column: u32, row: u32) -> u32
+    ensures { λ r. ⌜ r ≡ lookupRefusal (now (sheet .entry)) column row ⌝ }
+{
+    nodes::node_refusal(sheet, column, row)
+}
+
+// Sets the node at a column and row to a height, in steps, and two slopes, in grains per pixel, and answers 0; or, refused (1 to 6, 10, 11), answers the
+// number and leaves the sheet as it was.
+pub fn set_node(
+    sheet: &mut [u8],
+    column: u32,
+    row: u32,
+    height: i32,
+    x_slope: i32,
+    y_slope: i32,
+) -> u32
+    ensures answer { λ r. ⌜ r ≡ settingRefusal (now (sheet .entry)) column row (node height «x_slope» «y_slope») ⌝ }
+    ensures sheet { λ r. ⌜ now (sheet .exit) ≡ withNode (now (sheet .entry)) column row (node height «x_slope» «y_slope») ⌝ }
+{
+    nodes::set_node(sheet, column, row, height, x_slope, y_slope)
+}

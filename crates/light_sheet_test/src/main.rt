@@ -1,0 +1,208 @@
+// The calls of a light sheet on the cases of standard input, one line each: the call as in tests/vectors/calls.txt, "->" and its number; for a lookup
+// also the bytes that it hands back, for a setting the bytes of the sheet that it changes. The input and the expected output are from
+// tools/light_sheet_test_expected.py.
+// A case is three numbers of 16 bits (the length of its name, that of its sheet, how many calls), the name, the sheet, and 24 bytes for each call: its
+// letter, three zeros, and five numbers of 32 bits (column, row, height, x-slope, y-slope). Numbers have their low byte first.
+use libc::STDIN_FILENO;
+use libc::STDOUT_FILENO;
+use printing::field;
+use words::wide;
+
+// A call's numbers.
+struct Numbers {
+    column: u32,
+    row: u32,
+    height: i32,
+    x_slope: i32,
+    y_slope: i32,
+}
+
+fn main() {
+    let mut cases: usize = 0;
+    while cases < 4096 {
+        if !case() {
+            break;
+        }
+        cases += 1;
+    }
+}
+
+// One case, or false where the input has ended.
+fn case() -> bool {
+    let mut head = [0u8; 6];
+    if io::read_full(STDIN_FILENO, &mut head) < 6 {
+        return false;
+    }
+    let name_size = short(head[0], head[1]) as usize;
+    let sheet_size = short(head[2], head[3]) as usize;
+    let calls = short(head[4], head[5]);
+    let mut name = [0u8; 64];
+    let mut sheet = [0u8; 26000];
+    let mut copy = [0u8; 26000];
+    sized_case(
+        &mut name,
+        &mut sheet,
+        &mut copy,
+        name_size,
+        sheet_size,
+        calls,
+    );
+    true
+}
+
+// A case in as much of the buffers as it fills. One that they do not hold is left out, and its lines are then missing.
+fn sized_case(
+    name: &mut [u8],
+    sheet: &mut [u8],
+    copy: &mut [u8],
+    name_size: usize,
+    sheet_size: usize,
+    calls: u32,
+) {
+    if name_size <= name.len() && sheet_size <= sheet.len() && sheet_size <= copy.len() {
+        read_case(
+            &mut name[0..name_size],
+            &mut sheet[0..sheet_size],
+            &mut copy[0..sheet_size],
+            calls,
+        );
+    }
+}
+
+fn read_case(name: &mut [u8], sheet: &mut [u8], copy: &mut [u8], calls: u32) {
+    io::read_full(STDIN_FILENO, name);
+    io::read_full(STDIN_FILENO, sheet);
+    make_calls(name, sheet, copy, calls);
+}
+
+fn make_calls(name: &[u8], sheet: &[u8], copy: &mut [u8], calls: u32) {
+    let mut k: u32 = 0;
+    while k < calls {
+        make_call(name, sheet, copy);
+        k += 1;
+    }
+}
+
+// Reads a call and makes it.
+fn make_call(name: &[u8], sheet: &[u8], copy: &mut [u8]) {
+    let mut c = [0u8; 24];
+    io::read_full(STDIN_FILENO, &mut c);
+    let v = Numbers {
+        column: long(c[4], c[5], c[6], c[7]),
+        row: long(c[8], c[9], c[10], c[11]),
+        height: signed(long(c[12], c[13], c[14], c[15])),
+        x_slope: signed(long(c[16], c[17], c[18], c[19])),
+        y_slope: signed(long(c[20], c[21], c[22], c[23])),
+    };
+    if c[0] == b'c' {
+        check(name, sheet);
+        return;
+    }
+    if c[0] == b'n' {
+        node(name, sheet, v);
+        return;
+    }
+    set_node(name, sheet, copy, v);
+}
+
+fn check(name: &[u8], sheet: &[u8]) {
+    call(b"check ", name);
+    answer(light_sheet::check(sheet));
+    io::write_all(STDOUT_FILENO, b"\n");
+}
+
+fn node(name: &[u8], sheet: &[u8], v: Numbers) {
+    call(b"node ", name);
+    field(v.column as i64);
+    field(v.row as i64);
+    answer(light_sheet::node_refusal(sheet, v.column, v.row));
+    handed_back(light_sheet::node(sheet, v.column, v.row));
+    io::write_all(STDOUT_FILENO, b"\n");
+}
+
+// Sets the node in a fresh copy of the sheet.
+fn set_node(name: &[u8], sheet: &[u8], copy: &mut [u8], v: Numbers) {
+    call(b"set_node ", name);
+    field(v.column as i64);
+    field(v.row as i64);
+    signed_field(v.height);
+    signed_field(v.x_slope);
+    signed_field(v.y_slope);
+    refresh(sheet, copy);
+    answer(light_sheet::set_node(copy, v.column, v.row, v.height, v.x_slope, v.y_slope));
+    changes(sheet, copy);
+    io::write_all(STDOUT_FILENO, b"\n");
+}
+
+fn call(verb: &[u8], name: &[u8]) {
+    io::write_all(STDOUT_FILENO, verb);
+    io::write_all(STDOUT_FILENO, name);
+    io::write_all(STDOUT_FILENO, b" ");
+}
+
+fn signed_field(n: i32) {
+    field(n as i64);
+}
+
+fn answer(number: u32) {
+    io::write_all(STDOUT_FILENO, b"->");
+    number_after_blank(number as u64);
+}
+
+// A part's length and bytes.
+fn handed_back(part: &[u8]) {
+    number_after_blank(part.len() as u64);
+    io::write_all(STDOUT_FILENO, b" bytes");
+    let mut k: usize = 0;
+    while k < part.len() {
+        number_after_blank(wide(part[k]) as u64);
+        k += 1;
+    }
+}
+
+fn refresh(sheet: &[u8], copy: &mut [u8]) {
+    let mut k: usize = 0;
+    while k < sheet.len() && k < copy.len() {
+        copy[k] = sheet[k];
+        k += 1;
+    }
+}
+
+// Each byte that differs after the call, as index=value.
+fn changes(before: &[u8], after: &[u8]) {
+    let mut k: usize = 0;
+    while k < before.len() && k < after.len() {
+        if before[k] != after[k] {
+            change(k, after[k]);
+        }
+        k += 1;
+    }
+}
+
+fn change(index: usize, value: u8) {
+    number_after_blank(index as u64);
+    io::write_all(STDOUT_FILENO, b"=");
+    io::print_decimal(STDOUT_FILENO, value as u64);
+}
+
+fn number_after_blank(number: u64) {
+    io::write_all(STDOUT_FILENO, b" ");
+    io::print_decimal(STDOUT_FILENO, number);
+}
+
+fn short(low: u8, high: u8) -> u32 {
+    wide(low) + wide(high) * 256
+}
+
+fn long(a: u8, b: u8, c: u8, d: u8) -> u32 {
+    wide(a) + wide(b) * 256 + wide(c) * 65536 + wide(d) * 16777216
+}
+
+// The signed number with these bits; !x is −1 − x.
+fn signed(bits: u32) -> i32 {
+    if bits < 2147483648 {
+        bits as i32
+    } else {
+        !((4294967295 - bits) as i32)
+    }
+}

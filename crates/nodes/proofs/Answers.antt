@@ -1,0 +1,79 @@
+-- What a refusal, a lookup and a setting come to, from the answers that the code has. Assumes nothing.
+use Prim.Native.Nat.{ℕ, _+_, _≤_}
+use mathlib.Core.Path.{_≡_, refl, sym, _∙_, ap}
+use mathlib.Core.List.{List}
+use mathlib.Core.Bool.{Bool, true, false, cond}
+use native.Mathlib.Omega.{arith}
+use lib.ListN.{length}
+use borrow.Author.Tests.{eq-eqb, ne-eqb}
+use Rattle.words.specs.Word.{replaced}
+use Rattle.sheet.specs.Format.{headerSize, Node, encoded, nodeSize, nodeOffset}
+use Rattle.sheet.specs.Refusals.{noNode, wrongNumbers, checkRefusal, lookupRefusal, settingRefusal, Accepted}
+use Rattle.sheet.specs.Calls.{span, lookedUp, withNode}
+use Rattle.sheet.proofs.Chains.{orElse, refused-or, lookup-is, setting-is, lookup-held}
+use Rattle.sheet.proofs.WellFormed.{accepted-laws}
+use Rattle.sheet.proofs.Offsets.{node-fits}
+use Rattle.sheet.proofs.Setting.{set-is, refused-is}
+
+-- ---- what the code may read
+
+pub header-read : (s : List ℕ) → checkRefusal s ≡ 0 → headerSize ≤ length s
+unfolding Accepted
+header-read s h = omega (arith, accepted-laws .sound s h .whole)
+
+pub header-there : (s : List ℕ) (i j : ℕ) → lookupRefusal s i j ≡ 0 → headerSize ≤ length s
+unfolding Accepted
+header-there s i j h = header-read s (lookup-held s i j h .accepted)
+
+pub node-there : (s : List ℕ) (i j : ℕ) → lookupRefusal s i j ≡ 0 → nodeOffset s i j + nodeSize ≤ length s
+node-there s i j h = let n = lookup-held s i j h in node-fits (accepted-laws .sound s (n .accepted)) i j (n .column) (n .row)
+
+-- ---- a chain of two answers: n, then k; r is n as the code has it
+
+refused : {m r : ℕ} (n k : ℕ) → m ≡ orElse n k → r ≡ n → (r ≡ 0 → ⊥) → r ≡ m
+refused n k q e h = e ∙ sym (q ∙ refused-or n k (λ z. h (e ∙ z)))
+
+passed : {m r : ℕ} (n k : ℕ) → m ≡ orElse n k → r ≡ n → r ≡ 0 → k ≡ m
+passed n k q e h = sym (q ∙ rw (eq-eqb n 0 (sym e ∙ h)) refl)
+
+-- ---- the lookup's
+
+module _ (s : List ℕ) (i j : ℕ) {r : ℕ} (e : r ≡ checkRefusal s) where
+  pub sheet-refused : (r ≡ 0 → ⊥) → r ≡ lookupRefusal s i j
+  sheet-refused h = refused _ _ (lookup-is s i j) e h
+
+  pub node-answer : r ≡ 0 → {b : Bool} → noNode s i j ≡ b → cond b 10 0 ≡ lookupRefusal s i j
+  node-answer h q = ap (λ b. cond b 10 0) (sym q) ∙ passed _ _ (lookup-is s i j) e h
+
+module _ (s : List ℕ) (i j : ℕ) {r : ℕ} (e : r ≡ lookupRefusal s i j) where
+  pub looked-none : (r ≡ 0 → ⊥) → lookedUp s i j ≡ span 0 0
+  unfolding lookedUp
+  looked-none h = rw (ne-eqb (lookupRefusal s i j) 0 (λ z. h (e ∙ z))) refl
+
+  pub looked-found : r ≡ 0 → lookedUp s i j ≡ span (nodeOffset s i j) nodeSize
+  unfolding lookedUp
+  looked-found h = rw (eq-eqb (lookupRefusal s i j) 0 (sym e ∙ h)) refl
+
+-- ---- the setting's: n is the answer and t the sheet that is left
+
+module _ (s : List ℕ) (i j : ℕ) (v : Node) where
+  abbrev Sets : ℕ → List ℕ → Type 0
+  Sets n t = (n ≡ settingRefusal s i j v) × (t ≡ withNode s i j v)
+
+  unset : {n : ℕ} → n ≡ settingRefusal s i j v → (n ≡ 0 → ⊥) → Sets n s
+  unset e h = (e, sym (refused-is s i j v (λ z. h (e ∙ z))))
+
+  module _ {r : ℕ} (e : r ≡ lookupRefusal s i j) where
+    pub set-refused : (r ≡ 0 → ⊥) → Sets r s
+    set-refused h = unset (refused _ _ (setting-is s i j v) e h) h
+
+    -- u is v as the code hands it on, and w the answer on its numbers
+    module _ (z : r ≡ 0) {u : Node} (f : u ≡ v) {w : Bool} (q : w ≡ wrongNumbers u) where
+      numbers-answer : {b : Bool} → w ≡ b → cond b 11 0 ≡ settingRefusal s i j v
+      numbers-answer h = ap (λ b. cond b 11 0) (sym h ∙ q ∙ ap wrongNumbers f) ∙ passed _ _ (setting-is s i j v) e z
+
+      pub set-wrong : w ≡ true → Sets 11 s
+      set-wrong h = unset (numbers-answer h) (λ k. omega arith)
+
+      pub set-done : w ≡ false → {at : ℕ} {t : List ℕ} → at ≡ nodeOffset s i j → t ≡ replaced s at (encoded u) → Sets 0 t
+      set-done h a k = let n = numbers-answer h in (n, k ∙ rw (a, f) (sym (set-is s i j v (sym n))))
