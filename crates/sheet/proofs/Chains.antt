@@ -9,7 +9,7 @@ use borrow.Author.Tests.{eqb-true, eqb-false, leb-false, eq-eqb, ne-eqb, lt-leb,
 use Rattle.integers.proofs.Deduce.{both}
 use Rattle.sheet.specs.Format.{columns, rows, Node, nodeIn}
 use Rattle.sheet.specs.Refusals.{Input, Rule, rule, otherMark, otherVersion, otherCounts, otherLength, wrongLines, wrongNodes, noNode, wrongNumbers, table, first, member, part, sheetChecks, lookupChecks, zeroNode, atNode, checkRefusal, lookupRefusal, settingRefusal, Accepted}
-use Rattle.sheet.specs.Laws.{Each}
+use Rattle.sheet.specs.RefusalLaws.{Each}
 
 pub check-is : (s : List ℕ)
     → checkRefusal s ≡ cond (otherMark s) 1 (cond (otherVersion s) 2 (cond (otherCounts s) 3 (cond (otherLength s) 4 (cond (wrongLines s) 5 (cond (wrongNodes s) 6 0)))))

@@ -13,7 +13,7 @@ use Rattle.words.specs.Word.{wordAt, signed, bitsOf, bytesOf, Bytes}
 use Rattle.words.proofs.Signs.{signed-bits, bits-signed, bits-small}
 use Rattle.words.proofs.Bytes.{word-bytes, bytes-word, bytes-of, bytes-append}
 use Rattle.sheet.specs.Format.{Node, decoded, encoded, nodeIn, nodeSize}
-use Rattle.sheet.specs.Laws.{NodeLaws}
+use Rattle.sheet.specs.SettingLaws.{NodeLaws}
 use Rattle.sheet.proofs.Ranges.{node-in}
 
 -- ---- a number and its two bytes

@@ -4,7 +4,7 @@ use mathlib.Core.Path.{_≡_, refl, sym, _∙_, ap}
 use mathlib.Core.List.{List, [], _∷_, _++_}
 use mathlib.Core.Bool.{Bool, true, false, cond}
 use Rattle.sheet.specs.Refusals.{Input, Rule, table, first, member, part}
-use Rattle.sheet.specs.Laws.{Fails, Each, FirstToHold, RefusalLaws}
+use Rattle.sheet.specs.RefusalLaws.{Fails, Each, FirstToHold, RefusalLaws}
 use Rattle.sheet.proofs.Chains.{Numbered, numbered, numbered-part}
 
 -- ---- a number is given

@@ -8,7 +8,7 @@ use native.Mathlib.Decide.{decLt}
 use native.Mathlib.Omega.{arith}
 use lib.ListN.{length}
 use Rattle.sheet.specs.Format.{columns, rows, nodeSize, nodeOffset}
-use Rattle.sheet.specs.Laws.{WellFormed}
+use Rattle.sheet.specs.WellFormed.{WellFormed}
 
 -- a later row starts behind all of an earlier one
 rows-apart : (m i j j′ : ℕ) → i < m → j < j′ → j * m + i < j′ * m

@@ -8,7 +8,7 @@ use lib.IntN.{ℤ, natAbs}
 use Rattle.integers.specs.Within.{_within_}
 use Rattle.sheet.specs.Format.{furthest, widest, Node, highest, steepest, heightIn, slopeIn, nodeIn}
 use Rattle.sheet.specs.Refusals.{some, wrongStep, wrongLine}
-use Rattle.sheet.specs.Laws.{Rising, InRange}
+use Rattle.sheet.specs.WellFormed.{Rising, InRange}
 use Rattle.sheet.proofs.Meaning.{ltb-fails, leb-fails, or-fails, some-fails, leb-holds, and-holds}
 
 -- ---- lines

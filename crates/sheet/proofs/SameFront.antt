@@ -6,7 +6,7 @@ use native.Mathlib.Omega.{arith}
 use lib.ListN.{length}
 use Rattle.words.specs.Word.{byteAt, wordAt}
 use Rattle.sheet.specs.Format.{columns, rows, xLinesOffset, yLinesOffset, lineX, lineY, nodesOffset, decoded, nodeSize, nodeOffset, nodeAt}
-use Rattle.sheet.specs.Laws.{Rising, InRange, WellFormed}
+use Rattle.sheet.specs.WellFormed.{Rising, InRange, WellFormed}
 use Rattle.words.proofs.Replaced.{stretch-byte}
 
 same-word : (a b : List ℕ) (n : ℕ) → ((k : ℕ) → k < n → byteAt a k ≡ byteAt b k) → (k : ℕ) → k + 1 < n → wordAt a k ≡ wordAt b k

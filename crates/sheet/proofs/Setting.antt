@@ -12,7 +12,8 @@ use Rattle.words.proofs.Replaced.{replaced-bytes}
 use Rattle.sheet.specs.Format.{columns, rows, Node, decoded, encoded, nodeIn, nodeSize, nodeOffset, nodeAt}
 use Rattle.sheet.specs.Refusals.{lookupRefusal, settingRefusal, Accepted}
 use Rattle.sheet.specs.Calls.{lookedUp, bytesIn, withNode}
-use Rattle.sheet.specs.Laws.{WellFormed, SettingLaws}
+use Rattle.sheet.specs.WellFormed.{WellFormed}
+use Rattle.sheet.specs.SettingLaws.{Leaves, ReadsBack, SettingLaws}
 use Rattle.sheet.proofs.Chains.{HasNode, lookup-held, lookup-taken, setting-held, setting-taken}
 use Rattle.sheet.proofs.Ranges.{node-in}
 use Rattle.sheet.proofs.WellFormed.{accepted-laws}
@@ -78,22 +79,18 @@ module _ (s : List ℕ) (i j : ℕ) (v : Node) where
 
   -- ---- the node reads back
 
-  module _ (e : settingRefusal s i j v ≡ 0) where
-    has : HasNode s i j
-    has = setting-held s i j v e .0
-
-    reads-back : nodeAt (withNode s i j v) i j ≡ v
-    reads-back = rw (set-is s i j v e) (written-node s i j v (fits has) (setting-held s i j v e .1))
-
-    looks-up : lookupRefusal (withNode s i j v) i j ≡ 0
-    looks-up = lookup-taken (still-has has)
-
-    handed-back : bytesIn (withNode s i j v) (lookedUp (withNode s i j v) i j) ≡ encoded v
-    unfolding lookedUp
-    handed-back = rw (eq-eqb _ _ looks-up, set-is s i j v e) (written-bytes s i j v (fits has))
-
-    decodes : decoded (bytesIn (withNode s i j v) (lookedUp (withNode s i j v) i j)) ≡ v
-    decodes = rw handed-back (node-laws .decodedEncoded v (setting-held s i j v e .1))
+  reads-back : settingRefusal s i j v ≡ 0 → ReadsBack i j v (withNode s i j v)
+  unfolding lookedUp
+  reads-back e =
+      let (has, n) = setting-held s i j v e in
+      let found = lookup-taken (still-has has) in
+      let bytes : bytesIn (withNode s i j v) (lookedUp (withNode s i j v) i j) ≡ encoded v = rw (eq-eqb _ _ found, set-is s i j v e) (written-bytes s i j v (fits has)) in
+      record {
+        numbers = rw (set-is s i j v e) (written-node s i j v (fits has) n);
+        found = found;
+        handedBack = bytes;
+        decodes = rw bytes (node-laws .decodedEncoded v n);
+      }
 
   -- ---- the others stay
 
@@ -118,24 +115,19 @@ same-taken s i j e =
     let h = lookup-held s i j e in
     setting-taken (nodeAt s i j) h (node-in (nodeAt s i j) .1 (well-formed h .ranges i j (h .column) (h .row)))
 
-pub setting-laws : SettingLaws
-setting-laws = record {
-  size = size;
-  before = before;
-  after = after;
-  refused = refused-is;
-  bytes = bytes;
-  accepted = accepted;
-  columnsStay = columns-stay;
-  rowsStay = rows-stay;
-  linesX = λ s i j v. same-lineX (front s i j v);
-  linesY = λ s i j v. same-lineY (front s i j v);
-  readsBack = reads-back;
-  looksUp = looks-up;
-  handedBack = handed-back;
-  decodes = decodes;
-  others = others;
-  twice = twice;
-  same = same;
-  sameTaken = same-taken;
+leaves : (s : List ℕ) (i j : ℕ) (v : Node) → Leaves s i j v (withNode s i j v)
+leaves s i j v = record {
+  size = size s i j v;
+  before = before s i j v;
+  after = after s i j v;
+  bytes = bytes s i j v;
+  accepted = accepted s i j v;
+  columnsStay = columns-stay s i j v;
+  rowsStay = rows-stay s i j v;
+  linesX = same-lineX (front s i j v);
+  linesY = same-lineY (front s i j v);
+  others = others s i j v;
 }
+
+pub setting-laws : SettingLaws
+setting-laws = record { leaves = leaves; refused = refused-is; readsBack = reads-back; twice = twice; same = same; sameTaken = same-taken }

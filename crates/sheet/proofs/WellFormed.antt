@@ -10,7 +10,7 @@ use lib.ListN.{length}
 use Rattle.words.specs.Word.{byteAt}
 use Rattle.sheet.specs.Format.{headerSize, marked, version, supported, columns, rows, countIn, reserved, lineX, lineY, nodeAt, sizeOf}
 use Rattle.sheet.specs.Refusals.{otherMark, otherVersion, otherCounts, otherLength, wrongLines, wrongNodes, table, member, part, sheetChecks, atPixel, checkRefusal, Accepted}
-use Rattle.sheet.specs.Laws.{Rising, InRange, WellFormed, AcceptedLaws}
+use Rattle.sheet.specs.WellFormed.{Rising, InRange, WellFormed, AcceptedLaws}
 use Rattle.sheet.proofs.Meaning.{ltb-fails, not-fails, or-fails, some-fails, leb-holds, eqb-holds, and-holds}
 use Rattle.sheet.proofs.FirstHolds.{none-given, none-of-table}
 use Rattle.sheet.proofs.Ranges.{lines-rise, node-in}

@@ -9,7 +9,7 @@ use native.Mathlib.Omega.{arith}
 use lib.ListN.{length, take, drop}
 use Rattle.words.specs.Word.{byteAt, replaced, Bytes}
 use Rattle.sheet.specs.Format.{columns, rows, Node, encoded, decoded, nodeIn, nodeSize, nodeOffset, nodeBytes, nodeAt}
-use Rattle.sheet.specs.Laws.{InRange, WellFormed}
+use Rattle.sheet.specs.WellFormed.{InRange, WellFormed}
 use Rattle.words.proofs.Replaced.{stretch-length, stretch-bytes, replaced-same, replaced-length, replaced-stretch, replaced-before, replaced-after, replaced-again}
 use Rattle.sheet.proofs.Encoding.{node-laws}
 use Rattle.sheet.proofs.Ranges.{node-in}

@@ -1,5 +1,7 @@
 pub mod Format
 pub mod Refusals
+pub mod RefusalLaws
+pub mod WellFormed
 pub mod Calls
-pub mod Laws
+pub mod SettingLaws
 pub mod Examples

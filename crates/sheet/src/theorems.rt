@@ -1,6 +1,8 @@
 // Theorems that belong to no function. Each is the contract of one that returns 0, so that the gate asks for its proof.
 ghost use mathlib.Core.Path.{_≡_};
-ghost use Rattle.sheet.specs.Laws.{RefusalLaws, AcceptedLaws, NodeLaws, SettingLaws};
+ghost use Rattle.sheet.specs.RefusalLaws.{RefusalLaws};
+ghost use Rattle.sheet.specs.WellFormed.{AcceptedLaws};
+ghost use Rattle.sheet.specs.SettingLaws.{NodeLaws, SettingLaws};
 ghost use Rattle.sheet.specs.Examples.{Examples};
 
 pub fn refusal_laws() -> u64
