@@ -8,7 +8,7 @@ use lib.ListN.{length}
 use Rattle.sheet.specs.Format.{headerSize, columns, rows}
 use Rattle.sheet.specs.Refusals.{otherMark, otherVersion, otherCounts, otherLength, wrongLines, wrongNodes, checkRefusal}
 use Rattle.sheet.proofs.Chains.{check-is}
-use Rattle.sheet.proofs.WellFormed.{mark-right, counts-right}
+use Rattle.sheet.proofs.Conditions.{condition-laws}
 
 module _ (s : List ℕ) where
   pub by-mark : otherMark s ≡ true → 1 ≡ checkRefusal s
@@ -16,7 +16,7 @@ module _ (s : List ℕ) where
 
   module _ (mark : otherMark s ≡ false) where
     pub header : headerSize ≤ length s
-    header = mark-right s .0 mark .0
+    header = condition-laws .one s .0 mark .0
 
     pub by-version : otherVersion s ≡ true → 2 ≡ checkRefusal s
     by-version e = rw (check-is s, mark, e) refl
@@ -44,4 +44,4 @@ module _ (s : List ℕ) where
         accepts e = rw (check-is s, h .0, h .1, h .2, size, lines, e) refl
 
   pub lines-there : otherCounts s ≡ false → (0 < columns s) × (0 < rows s)
-  lines-there e = let ((m, n), _) = counts-right s .0 e in (omega (arith, m), omega (arith, n))
+  lines-there e = let h = condition-laws .three s .0 e in (omega (arith, h .0), omega (arith, h .2))

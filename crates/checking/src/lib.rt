@@ -4,10 +4,15 @@ ghost use mathlib.Core.Bool.{false, not};
 ghost use Prim.Native.Nat.{_+_, _*_, _≤_, _<_};
 ghost use lib.ListN.{length};
 ghost use Rattle.words.specs.Word.{wordAt, signed};
-ghost use Rattle.sheet.specs.Format.{headerSize, columns, rows, countIn, slopeIn, sizeOf};
+ghost use Rattle.sheet.specs.Format.{headerSize, columns, rows, countIn, slopeIn, nodesOffset, sizeOf};
 ghost use Rattle.sheet.specs.Refusals.{some, otherMark, otherVersion, otherCounts, otherLength, wrongStep, wrongLine, wrongLines, wrongNodes, checkRefusal};
 use words::wide;
 use words::word;
+
+// How many bytes the header has, and a node.
+pub const HEADER_SIZE: usize = 8;
+
+pub const NODE_SIZE: usize = 6;
 
 // 0 where the sheet is accepted, else the number of the first condition that holds.
 pub fn check(sheet: &[u8]) -> u32
@@ -45,7 +50,7 @@ fn check_body(sheet: &[u8]) -> u32
 fn other_mark(sheet: &[u8]) -> bool
     ensures { λ r. ⌜ r ≡ otherMark (now (sheet .entry)) ⌝ }
 {
-    if sheet.len() < 8 {
+    if sheet.len() < HEADER_SIZE {
         return true;
     }
     !((sheet[0] == 0x4c) & (sheet[1] == 0x56) & (sheet[2] == 0x53))
@@ -75,9 +80,7 @@ fn other_length(sheet: &[u8]) -> bool
     requires { ⌜ headerSize ≤ length (now sheet) ⌝ }
     ensures { λ r. ⌜ r ≡ otherLength (now (sheet .entry)) ⌝ }
 {
-    let m = columns(sheet);
-    let n = rows(sheet);
-    sheet.len() != 8 + 2 * m + 2 * n + 6 * (m * n)
+    sheet.len() != nodes_offset(sheet) + NODE_SIZE * node_count(sheet)
 }
 
 fn wrong_lines(sheet: &[u8]) -> bool
@@ -86,7 +89,7 @@ fn wrong_lines(sheet: &[u8]) -> bool
 {
     let m = columns(sheet);
     let n = rows(sheet);
-    wrong_axis(sheet, 8, m) | wrong_axis(sheet, 8 + 2 * m, n)
+    wrong_axis(sheet, HEADER_SIZE, m) | wrong_axis(sheet, HEADER_SIZE + 2 * m, n)
 }
 
 // Whether one of an axis's lines, from index `start` on, is wrong. No early exit: the compiler may look at several lines at once.
@@ -115,9 +118,7 @@ fn wrong_nodes(sheet: &[u8]) -> bool
     requires { ⌜ length (now sheet) ≡ sizeOf (columns (now sheet)) (rows (now sheet)) ⌝ }
     ensures { λ r. ⌜ r ≡ wrongNodes (now (sheet .entry)) ⌝ }
 {
-    let m = columns(sheet);
-    let n = rows(sheet);
-    wrong_numbers(sheet, 8 + 2 * m + 2 * n, 3 * (m * n))
+    wrong_numbers(sheet, nodes_offset(sheet), 3 * node_count(sheet))
 }
 
 // Whether one of the `count` signed numbers from index `start` on is out of range. No early exit here either.
@@ -134,12 +135,27 @@ fn wrong_numbers(sheet: &[u8], start: usize, count: usize) -> bool
     wrong
 }
 
-// Of the 16 bits of a signed number: up to 4,095, or from 65,536 − 4,095 on.
+// Of the 16 bits of a signed number: up to 4,095, or from 65,536 − 4,095 on. Heights and slopes have the same range.
 fn in_range(bits: u32) -> bool
     requires { ⌜ bits < 65536 ⌝ }
     ensures { λ r. ⌜ r ≡ slopeIn (signed bits) ⌝ }
 {
     (bits <= 4095) | (61441 <= bits)
+}
+
+// Where the nodes start.
+pub fn nodes_offset(sheet: &[u8]) -> usize
+    requires { ⌜ headerSize ≤ length (now sheet) ⌝ }
+    ensures { λ r. ⌜ (r ≡ nodesOffset (now (sheet .entry))) × (r ≤ 1028) ⌝ }
+{
+    HEADER_SIZE + 2 * columns(sheet) + 2 * rows(sheet)
+}
+
+fn node_count(sheet: &[u8]) -> usize
+    requires { ⌜ headerSize ≤ length (now sheet) ⌝ }
+    ensures { λ r. ⌜ (r ≡ columns (now (sheet .entry)) * rows (now (sheet .entry))) × (r ≤ 65536) ⌝ }
+{
+    columns(sheet) * rows(sheet)
 }
 
 pub fn columns(sheet: &[u8]) -> usize

@@ -1,18 +1,18 @@
 -- What a refusal, a lookup and a setting come to, from the answers that the code has. Assumes nothing.
-use Prim.Native.Nat.{ℕ, _+_, _≤_}
+use Prim.Native.Nat.{ℕ, _≤_}
 use mathlib.Core.Path.{_≡_, refl, sym, _∙_, ap}
 use mathlib.Core.List.{List}
 use mathlib.Core.Bool.{Bool, true, false, cond}
 use native.Mathlib.Omega.{arith}
 use lib.ListN.{length}
-use borrow.Author.Tests.{eq-eqb, ne-eqb}
+use borrow.Author.Tests.{eq-eqb}
 use Rattle.words.specs.Word.{replaced}
 use Rattle.sheet.specs.Format.{headerSize, Node, encoded, nodeSize, nodeOffset}
 use Rattle.sheet.specs.Refusals.{noNode, wrongNumbers, checkRefusal, lookupRefusal, settingRefusal, Accepted}
 use Rattle.sheet.specs.Calls.{span, lookedUp, withNode}
 use Rattle.sheet.proofs.Chains.{orElse, refused-or, lookup-is, setting-is, lookup-held}
 use Rattle.sheet.proofs.WellFormed.{accepted-laws}
-use Rattle.sheet.proofs.Offsets.{node-fits}
+use Rattle.sheet.proofs.Lookup.{lookup-laws}
 use Rattle.sheet.proofs.Setting.{set-is, refused-is}
 
 -- ---- what the code may read
@@ -24,9 +24,6 @@ header-read s h = omega (arith, accepted-laws .sound s h .whole)
 pub header-there : (s : List ℕ) (i j : ℕ) → lookupRefusal s i j ≡ 0 → headerSize ≤ length s
 unfolding Accepted
 header-there s i j h = header-read s (lookup-held s i j h .accepted)
-
-pub node-there : (s : List ℕ) (i j : ℕ) → lookupRefusal s i j ≡ 0 → nodeOffset s i j + nodeSize ≤ length s
-node-there s i j h = let n = lookup-held s i j h in node-fits (accepted-laws .sound s (n .accepted)) i j (n .column) (n .row)
 
 -- ---- a chain of two answers: n, then k; r is n as the code has it
 
@@ -47,12 +44,10 @@ module _ (s : List ℕ) (i j : ℕ) {r : ℕ} (e : r ≡ checkRefusal s) where
 
 module _ (s : List ℕ) (i j : ℕ) {r : ℕ} (e : r ≡ lookupRefusal s i j) where
   pub looked-none : (r ≡ 0 → ⊥) → lookedUp s i j ≡ span 0 0
-  unfolding lookedUp
-  looked-none h = rw (ne-eqb (lookupRefusal s i j) 0 (λ z. h (e ∙ z))) refl
+  looked-none h = lookup-laws .refused s i j (λ z. h (e ∙ z))
 
   pub looked-found : r ≡ 0 → lookedUp s i j ≡ span (nodeOffset s i j) nodeSize
-  unfolding lookedUp
-  looked-found h = rw (eq-eqb (lookupRefusal s i j) 0 (sym e ∙ h)) refl
+  looked-found h = lookup-laws .found s i j (sym e ∙ h)
 
 -- ---- the setting's: n is the answer and t the sheet that is left
 

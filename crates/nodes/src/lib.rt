@@ -7,8 +7,10 @@ ghost use Rattle.words.specs.Word.{replaced};
 ghost use Rattle.sheet.specs.Format.{headerSize, node, encoded, slopeIn, nodeSize, nodeOffset};
 ghost use Rattle.sheet.specs.Refusals.{noNode, wrongNumbers, lookupRefusal, settingRefusal};
 ghost use Rattle.sheet.specs.Calls.{lookedUp, span, Part, withNode};
+use checking::NODE_SIZE;
 use checking::check;
 use checking::columns;
+use checking::nodes_offset;
 use checking::rows;
 use words::bits_of;
 use words::put_word;
@@ -65,9 +67,9 @@ fn found(sheet: &[u8], column: u32, row: u32) -> &[u8]
     requires { ⌜ lookupRefusal (now sheet) column row ≡ 0 ⌝ }
     ensures { λ r. ⌜ Part (sheet .entry) r (span (nodeOffset (now (sheet .entry)) column row) nodeSize) ⌝ }
 {
-    let at = offset(sheet, column, row);
-    let end = at + 6;
-    &sheet[at..end]
+    let start = offset(sheet, column, row);
+    let end = start + NODE_SIZE;
+    &sheet[start..end]
 }
 
 fn no_node(sheet: &[u8], column: u32, row: u32) -> bool
@@ -82,9 +84,7 @@ fn offset(sheet: &[u8], column: u32, row: u32) -> usize
     requires { ⌜ lookupRefusal (now sheet) column row ≡ 0 ⌝ }
     ensures { λ r. ⌜ (r ≡ nodeOffset (now (sheet .entry)) column row) × (r + nodeSize ≤ length (now (sheet .entry))) ⌝ }
 {
-    let m = columns(sheet);
-    let n = rows(sheet);
-    8 + 2 * m + 2 * n + 6 * (row as usize * m + column as usize)
+    nodes_offset(sheet) + NODE_SIZE * (row as usize * columns(sheet) + column as usize)
 }
 
 fn wrong_numbers(height: i32, x_slope: i32, y_slope: i32) -> bool
@@ -93,6 +93,7 @@ fn wrong_numbers(height: i32, x_slope: i32, y_slope: i32) -> bool
     !(in_range(height) & in_range(x_slope) & in_range(y_slope))
 }
 
+// Heights and slopes have the same range.
 fn in_range(x: i32) -> bool
     ensures { λ r. ⌜ r ≡ slopeIn x ⌝ }
 {

@@ -13,7 +13,7 @@ use Rattle.words.specs.Word.{wordAt, signed, bitsOf, bytesOf, Bytes}
 use Rattle.words.proofs.Signs.{signed-bits, bits-signed, bits-small}
 use Rattle.words.proofs.Bytes.{word-bytes, bytes-word, bytes-of, bytes-append}
 use Rattle.sheet.specs.Format.{Node, decoded, encoded, nodeIn, nodeSize}
-use Rattle.sheet.specs.SettingLaws.{NodeLaws}
+use Rattle.sheet.specs.NodeLaws.{EncodingLaws}
 use Rattle.sheet.proofs.Ranges.{node-in}
 
 -- ---- a number and its two bytes
@@ -35,7 +35,7 @@ decoded-encoded : (v : Node) → nodeIn v ≡ true → decoded (encoded v) ≡ v
 unfolding decoded encoded bytesOf
 decoded-encoded v e =
     let r = node-in v .0 e in
-    rw (number-back _ (r .height) (omega arith), number-back _ (r .slopeX) (omega arith), number-back _ (r .slopeY) (omega arith)) refl
+    rw (number-back _ (r .storedHeight) (omega arith), number-back _ (r .slopeX) (omega arith), number-back _ (r .slopeY) (omega arith)) refl
 
 encoded-decoded : (b : List ℕ) → Bytes b → length b ≡ nodeSize → encoded (decoded b) ≡ b
 unfolding decoded encoded
@@ -49,7 +49,7 @@ pub encoded-bytes : (v : Node) → nodeIn v ≡ true → Bytes (encoded v)
 unfolding encoded
 encoded-bytes v e =
     let r = node-in v .0 e in
-    bytes-append _ _ (bytes-append _ _ (number-bytes _ (r .height)) (number-bytes _ (r .slopeX))) (number-bytes _ (r .slopeY))
+    bytes-append _ _ (bytes-append _ _ (number-bytes _ (r .storedHeight)) (number-bytes _ (r .slopeX))) (number-bytes _ (r .slopeY))
 
-pub node-laws : NodeLaws
-node-laws = record { encodedSize = encoded-size; decodedEncoded = decoded-encoded; encodedDecoded = encoded-decoded }
+pub encoding-laws : EncodingLaws
+encoding-laws = record { encodedSize = encoded-size; decodedEncoded = decoded-encoded; encodedDecoded = encoded-decoded }

@@ -2,7 +2,7 @@
 use mathlib.Core.Path.{_≡_, refl}
 use mathlib.Core.List.{map}
 use Rattle.words.specs.Word.{signed, bitsOf, bytesOf}
-use Rattle.sheet.specs.Format.{marked, supported, countIn, decoded, encoded, heightIn, slopeIn, nodeIn, nodeAt, height, slopeX, slopeY}
+use Rattle.sheet.specs.Format.{marked, supported, countIn, decoded, encoded, heightIn, slopeIn, nodeIn, nodeAt, heightAt, slopeXAt, slopeYAt}
 use Rattle.sheet.specs.Refusals.{some, otherMark, otherVersion, otherCounts, otherLength, wrongStep, wrongLine, wrongLines, wrongNodes, outside, offMesh, emptyRun, otherKind, noNode, wrongNumbers, table, first, member, part, checkRefusal, lookupRefusal, settingRefusal, readingRefusal, runRefusal}
 use Rattle.sheet.specs.Calls.{lookedUp, withNode}
 use Rattle.sheet.specs.Examples.{checked, Examples}
@@ -12,16 +12,18 @@ unfolding signed marked supported countIn decoded heightIn slopeIn nodeIn nodeAt
 checks = refl
 
 pub examples : Examples
-unfolding signed bitsOf bytesOf marked supported countIn decoded encoded heightIn slopeIn nodeIn nodeAt height slopeX slopeY some otherMark otherVersion otherCounts otherLength wrongStep wrongLine wrongLines wrongNodes outside offMesh emptyRun otherKind noNode wrongNumbers table first member part lookupRefusal settingRefusal readingRefusal runRefusal lookedUp withNode
+unfolding signed bitsOf bytesOf marked supported countIn decoded encoded heightIn slopeIn nodeIn nodeAt heightAt slopeXAt slopeYAt some otherMark otherVersion otherCounts otherLength wrongStep wrongLine wrongLines wrongNodes outside offMesh emptyRun otherKind noNode wrongNumbers table first member part lookupRefusal settingRefusal readingRefusal runRefusal lookedUp withNode
 examples = record {
   checks = checks;
   corner = refl;
   grains = refl;
+  lower = refl;
   lastNode = refl;
   columnTooFar = refl;
   rowTooFar = refl;
   farthest = refl;
   nothing = refl;
+  noSheet = refl;
   setLast = refl;
   tooHigh = refl;
   tooSteep = refl;
@@ -48,4 +50,5 @@ examples = record {
   toTheEnd = refl;
   beyond = refl;
   fromOutside = refl;
+  veryLong = refl;
 }

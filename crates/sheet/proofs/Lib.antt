@@ -3,10 +3,12 @@ pub mod Some
 pub mod Meaning
 pub mod FirstHolds
 pub mod Ranges
+pub mod Conditions
 pub mod WellFormed
 pub mod Encoding
 pub mod Offsets
 pub mod SameFront
 pub mod Written
+pub mod Lookup
 pub mod Setting
 pub mod Examples

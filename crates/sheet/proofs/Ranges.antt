@@ -52,4 +52,4 @@ pub node-in : (v : Node) → (nodeIn v ≡ true) ↔ InRange v
 unfolding nodeIn heightIn slopeIn
 node-in v =
     let h = and-holds (and-holds (within-holds (v .storedHeight) highest) (within-holds (v .slopeX) steepest)) (within-holds (v .slopeY) steepest) in
-    (λ e. let ((a, b), c) = h .0 e in record { height = a; slopeX = b; slopeY = c }, λ r. h .1 ((r .height, r .slopeX), r .slopeY))
+    (λ e. let ((a, b), c) = h .0 e in record { storedHeight = a; slopeX = b; slopeY = c }, λ r. h .1 ((r .storedHeight, r .slopeX), r .slopeY))

@@ -9,15 +9,15 @@ use lib.ListN.{length}
 use borrow.Author.Tests.{eq-eqb, ne-eqb}
 use Rattle.words.specs.Word.{byteAt, Bytes}
 use Rattle.words.proofs.Replaced.{replaced-bytes}
-use Rattle.sheet.specs.Format.{columns, rows, Node, decoded, encoded, nodeIn, nodeSize, nodeOffset, nodeAt}
+use Rattle.sheet.specs.Format.{columns, rows, Node, encoded, nodeIn, nodeSize, nodeOffset, nodeAt}
 use Rattle.sheet.specs.Refusals.{lookupRefusal, settingRefusal, Accepted}
 use Rattle.sheet.specs.Calls.{lookedUp, bytesIn, withNode}
 use Rattle.sheet.specs.WellFormed.{WellFormed}
-use Rattle.sheet.specs.SettingLaws.{Leaves, ReadsBack, SettingLaws}
+use Rattle.sheet.specs.NodeLaws.{Leaves, ReadsBack, SettingLaws}
 use Rattle.sheet.proofs.Chains.{HasNode, lookup-held, lookup-taken, setting-held, setting-taken}
 use Rattle.sheet.proofs.Ranges.{node-in}
 use Rattle.sheet.proofs.WellFormed.{accepted-laws}
-use Rattle.sheet.proofs.Encoding.{encoded-bytes, node-laws}
+use Rattle.sheet.proofs.Encoding.{encoded-bytes, encoding-laws}
 use Rattle.sheet.proofs.Offsets.{node-fits}
 use Rattle.sheet.proofs.SameFront.{SameFront, same-columns, same-rows, same-lineX, same-lineY}
 use Rattle.sheet.proofs.Written.{written, written-length, written-before, written-after, written-bytes, written-node, written-others, written-again, written-same, written-well-formed}
@@ -89,7 +89,7 @@ module _ (s : List ℕ) (i j : ℕ) (v : Node) where
         numbers = rw (set-is s i j v e) (written-node s i j v (fits has) n);
         found = found;
         handedBack = bytes;
-        decodes = rw bytes (node-laws .decodedEncoded v n);
+        decodes = rw bytes (encoding-laws .decodedEncoded v n);
       }
 
   -- ---- the others stay
@@ -115,7 +115,7 @@ same-taken s i j e =
     let h = lookup-held s i j e in
     setting-taken (nodeAt s i j) h (node-in (nodeAt s i j) .1 (well-formed h .ranges i j (h .column) (h .row)))
 
-leaves : (s : List ℕ) (i j : ℕ) (v : Node) → Leaves s i j v (withNode s i j v)
+leaves : (s : List ℕ) (i j : ℕ) (v : Node) → Leaves s i j (withNode s i j v)
 leaves s i j v = record {
   size = size s i j v;
   before = before s i j v;

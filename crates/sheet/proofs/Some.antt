@@ -2,21 +2,13 @@
 use Prim.Native.Nat.{ℕ, zero, suc, _<_}
 use mathlib.Core.Path.{_≡_, refl}
 use mathlib.Core.Logic.{⊎-elim}
-use mathlib.Core.Bool.{Bool, false, _||_}
+use mathlib.Core.Bool.{Bool, false}
 use native.Mathlib.Nat.{le-of-suc-le-suc, le-step, lt-suc-self, eq-or-lt-of-le}
 use native.Mathlib.Omega.{arith}
 use Rattle.sheet.specs.Refusals.{some}
 use Rattle.sheet.proofs.Chains.{or-false}
 
 module _ (p : ℕ → Bool) where
-  pub some-none : some p 0 ≡ false
-  unfolding some
-  some-none = refl
-
-  pub some-more : (k : ℕ) → some p (suc k) ≡ (some p k || p k)
-  unfolding some
-  some-more k = refl
-
   pub some-false-at : (n : ℕ) → some p n ≡ false → (k : ℕ) → k < n → p k ≡ false
   unfolding some
   some-false-at zero e k l = absurd (omega arith)

@@ -17,6 +17,7 @@ pub record Span : Type 0 where
   pub start : ℕ
   pub size : ℕ
 
+-- n bytes from index a on
 abbrev pub span : ℕ → ℕ → Span
 span a n = record { start = a; size = n }
 

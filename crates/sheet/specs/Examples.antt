@@ -1,10 +1,10 @@
--- Sheets and calls of 01 and of the outside vectors, computed on the definitions. Assumes nothing.
+-- Calls on 01's sheet A, on changes of it and on an oblong sheet, computed on the definitions. Assumes nothing.
 use Prim.Native.Nat.{ℕ}
 use mathlib.Core.Path.{_≡_}
 use mathlib.Core.List.{List, [], _∷_, _++_, map}
 use lib.ListN.{take, set}
 use lib.IntN.{pos, negsuc}
-use Rattle.sheet.specs.Format.{node, nodeAt, height, slopeX, slopeY}
+use Rattle.sheet.specs.Format.{node, nodeAt, heightAt, slopeXAt, slopeYAt}
 use Rattle.sheet.specs.Refusals.{checkRefusal, lookupRefusal, settingRefusal, readingRefusal, runRefusal}
 use Rattle.sheet.specs.Calls.{span, lookedUp, withNode}
 
@@ -68,9 +68,17 @@ checked =
     (square header 64 (flat 1 0) gives 0) ∷
     (square header 65 (flat 1 0) gives 5) ∷
     (square header 0 (flat 1 0) gives 5) ∷
-    -- a last line at 4,096, and at 4,097
+    -- a last vertical line at 4,096 and at 4,097; the first there
     (oblong gives 0) ∷
     (set oblong 12 1 gives 5) ∷
+    (set (set oblong 8 1) 9 16 gives 5) ∷
+    -- horizontal lines with a gap of 0, of 65, and the last at 4,105
+    (set oblong 16 5 gives 5) ∷
+    (set oblong 16 70 gives 5) ∷
+    (set oblong 17 16 gives 5) ∷
+    -- the slopes of the last node: 4,096, −4,096
+    (set (set oblong 50 0) 51 16 gives 6) ∷
+    (set (set oblong 52 0) 53 240 gives 6) ∷
     -- heights 4,095, 4,096, −4,095, −4,096 and −32,768
     (square header 2 (flat 255 15) gives 0) ∷
     (square header 2 (flat 0 16) gives 6) ∷
@@ -87,15 +95,17 @@ checked =
 
 pub record Examples : Type 0 where
   pub checks : map (λ e. checkRefusal (e .sheet)) checked ≡ map (λ e. e .gives) checked
-  -- node 00 of sheet A is 1 step high, that is 64 grains
+  -- node 00 of sheet A is 1 step high, that is 64 grains; set to −1 step it is 64 grains below
   pub corner : nodeAt sheetA 0 0 ≡ node (pos 1) (pos 0) (pos 0)
-  pub grains : height sheetA 0 0 ≡ pos 64
+  pub grains : heightAt sheetA 0 0 ≡ pos 64
+  pub lower : heightAt (withNode sheetA 0 0 (node (negsuc 0) (pos 0) (pos 0))) 0 0 ≡ negsuc 63
   -- its last node, and nodes that it does not have
   pub lastNode : lookedUp sheetA 1 1 ≡ span 34 6
   pub columnTooFar : lookupRefusal sheetA 2 0 ≡ 10
   pub rowTooFar : lookupRefusal sheetA 0 2 ≡ 10
   pub farthest : lookupRefusal sheetA 4294967295 0 ≡ 10
   pub nothing : lookedUp sheetA 2 0 ≡ span 0 0
+  pub noSheet : lookedUp [] 0 0 ≡ span 0 0
   -- setting it: 4,095 is FF 0F, −4,095 is 01 F0, −1 is FF FF
   pub setLast : withNode sheetA 1 1 (node (pos 4095) (negsuc 4094) (negsuc 0))
       ≡ take 34 sheetA ++ 255 ∷ 15 ∷ 1 ∷ 240 ∷ 255 ∷ 255 ∷ []
@@ -113,8 +123,8 @@ pub record Examples : Type 0 where
   -- nodes lie row by row: the last of the first row, the first of the second; the third column and no third row
   pub rowEnd : nodeAt oblong 2 0 ≡ node (pos 7) (pos 8) (pos 9)
   pub rowStart : nodeAt oblong 0 1 ≡ node (pos 10) (pos 11) (pos 12)
-  pub alongX : slopeX oblong 2 0 ≡ pos 8
-  pub alongY : slopeY oblong 2 0 ≡ pos 9
+  pub alongX : slopeXAt oblong 2 0 ≡ pos 8
+  pub alongY : slopeYAt oblong 2 0 ≡ pos 9
   pub thirdColumn : lookupRefusal oblong 2 1 ≡ 0
   pub thirdRow : lookupRefusal oblong 1 2 ≡ 10
   -- the pixels on its outer lines, and those just outside
@@ -128,3 +138,5 @@ pub record Examples : Type 0 where
   pub toTheEnd : runRefusal oblong 4090 9 7 ≡ 0
   pub beyond : runRefusal oblong 4090 9 8 ≡ 7
   pub fromOutside : runRefusal oblong 3999 5 2 ≡ 7
+  -- no sum wraps: 2³² pixels to the right is not the pixel before
+  pub veryLong : runRefusal oblong 4001 9 4294967296 ≡ 7

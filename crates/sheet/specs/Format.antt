@@ -10,7 +10,7 @@ use Rattle.words.specs.Word.{byteAt, wordAt, signed, bitsOf, bytesOf}
 
 -- ---- the header
 
--- the bytes of the header
+-- how many bytes the header has
 abbrev pub headerSize : ℕ
 headerSize = 8
 
@@ -18,6 +18,7 @@ headerSize = 8
 unfoldable pub marked : List ℕ → Bool
 marked s = eqb (byteAt s 0) 0x4C && eqb (byteAt s 1) 0x56 && eqb (byteAt s 2) 0x53
 
+-- the number in bytes 3 and 4
 abbrev pub version : List ℕ → ℕ
 version s = wordAt s 3
 
@@ -37,7 +38,7 @@ rows s = byteAt s 6
 unfoldable pub countIn : ℕ → Bool
 countIn n = leb 2 n && leb n 65
 
--- a byte that is 0
+-- byte 7, which has to be 0
 abbrev pub reserved : List ℕ → ℕ
 reserved s = byteAt s 7
 
@@ -74,10 +75,11 @@ pub record Node : Type 0 where
   pub slopeX : ℤ
   pub slopeY : ℤ
 
+-- the node with these numbers
 abbrev pub node : ℤ → ℤ → ℤ → Node
 node h p q = record { storedHeight = h; slopeX = p; slopeY = q }
 
--- the bytes of a node
+-- how many bytes a node has
 abbrev pub nodeSize : ℕ
 nodeSize = 6
 
@@ -96,6 +98,7 @@ highest = 4095
 abbrev pub steepest : ℕ
 steepest = 4095
 
+-- a stored height, a slope, a node in range
 unfoldable pub heightIn : ℤ → Bool
 heightIn z = leb (natAbs z) highest
 
@@ -113,9 +116,11 @@ nodesOffset s = yLinesOffset s + 2 * rows s
 abbrev pub nodeOffset : List ℕ → ℕ → ℕ → ℕ
 nodeOffset s i j = nodesOffset s + nodeSize * (j * columns s + i)
 
+-- its bytes
 abbrev pub nodeBytes : List ℕ → ℕ → ℕ → List ℕ
 nodeBytes s i j = take nodeSize (drop (nodeOffset s i j) s)
 
+-- its numbers
 unfoldable pub nodeAt : List ℕ → ℕ → ℕ → Node
 nodeAt s i j = decoded (nodeBytes s i j)
 
@@ -126,16 +131,16 @@ sizeOf m n = headerSize + 2 * m + 2 * n + nodeSize * (m * n)
 -- ---- a node's numbers in the units of a reading
 
 -- 01's grain is 1/64 of a step
-abbrev pub grains : ℤ
-grains = pos 64
+abbrev pub grainsPerStep : ℤ
+grainsPerStep = pos 64
 
 -- the height at column i and row j, in grains
-unfoldable pub height : List ℕ → ℕ → ℕ → ℤ
-height s i j = grains *ℤ nodeAt s i j .storedHeight
+unfoldable pub heightAt : List ℕ → ℕ → ℕ → ℤ
+heightAt s i j = grainsPerStep *ℤ nodeAt s i j .storedHeight
 
 -- the slopes there, in grains per pixel
-unfoldable pub slopeX : List ℕ → ℕ → ℕ → ℤ
-slopeX s i j = nodeAt s i j .slopeX
+unfoldable pub slopeXAt : List ℕ → ℕ → ℕ → ℤ
+slopeXAt s i j = nodeAt s i j .slopeX
 
-unfoldable pub slopeY : List ℕ → ℕ → ℕ → ℤ
-slopeY s i j = nodeAt s i j .slopeY
+unfoldable pub slopeYAt : List ℕ → ℕ → ℕ → ℤ
+slopeYAt s i j = nodeAt s i j .slopeY

@@ -3,5 +3,5 @@ pub mod Refusals
 pub mod RefusalLaws
 pub mod WellFormed
 pub mod Calls
-pub mod SettingLaws
+pub mod NodeLaws
 pub mod Examples

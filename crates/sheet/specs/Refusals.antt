@@ -143,18 +143,22 @@ readingChecks = sheetChecks ++ 7 ∷ 9 ∷ []
 abbrev pub runChecks : List ℕ
 runChecks = sheetChecks ++ 7 ∷ 8 ∷ []
 
--- what each call is given: what its checks do not look at is 0, and a reading has no run
+-- a node whose numbers no check looks at
 abbrev pub zeroNode : Node
 zeroNode = node (pos 0) (pos 0) (pos 0)
+
+-- what each call is given, 0 where its checks do not look: a sheet alone; a node and its new numbers; a pixel, a run's length (a reading has no run) and a kind
+abbrev pub atPixel : List ℕ → ℕ → ℕ → ℕ → ℕ → Input
+atPixel s x y count kind = record { sheet = s; column = 0; row = 0; numbers = zeroNode; x = x; y = y; count = count; kind = kind }
 
 abbrev pub atNode : List ℕ → ℕ → ℕ → Node → Input
 atNode s i j v = record { sheet = s; column = i; row = j; numbers = v; x = 0; y = 0; count = 0; kind = 0 }
 
-abbrev pub atPixel : List ℕ → ℕ → ℕ → ℕ → ℕ → Input
-atPixel s x y count kind = record { sheet = s; column = 0; row = 0; numbers = zeroNode; x = x; y = y; count = count; kind = kind }
+abbrev pub ofSheet : List ℕ → Input
+ofSheet s = atNode s 0 0 zeroNode
 
 unfoldable pub checkRefusal : List ℕ → ℕ
-checkRefusal s = first (part sheetChecks table) (atPixel s 0 0 0 0)
+checkRefusal s = first (part sheetChecks table) (ofSheet s)
 
 unfoldable pub lookupRefusal : List ℕ → ℕ → ℕ → ℕ
 lookupRefusal s i j = first (part lookupChecks table) (atNode s i j zeroNode)

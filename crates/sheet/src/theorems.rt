@@ -1,12 +1,18 @@
 // Theorems that belong to no function. Each is the contract of one that returns 0, so that the gate asks for its proof.
 ghost use mathlib.Core.Path.{_≡_};
 ghost use Rattle.sheet.specs.RefusalLaws.{RefusalLaws};
-ghost use Rattle.sheet.specs.WellFormed.{AcceptedLaws};
-ghost use Rattle.sheet.specs.SettingLaws.{NodeLaws, SettingLaws};
+ghost use Rattle.sheet.specs.WellFormed.{ConditionLaws, AcceptedLaws};
+ghost use Rattle.sheet.specs.NodeLaws.{EncodingLaws, LookupLaws, SettingLaws};
 ghost use Rattle.sheet.specs.Examples.{Examples};
 
 pub fn refusal_laws() -> u64
     ensures { λ r. ⌜ (r ≡ 0) × RefusalLaws ⌝ }
+{
+    0
+}
+
+pub fn condition_laws() -> u64
+    ensures { λ r. ⌜ (r ≡ 0) × ConditionLaws ⌝ }
 {
     0
 }
@@ -17,8 +23,14 @@ pub fn accepted_laws() -> u64
     0
 }
 
-pub fn node_laws() -> u64
-    ensures { λ r. ⌜ (r ≡ 0) × NodeLaws ⌝ }
+pub fn encoding_laws() -> u64
+    ensures { λ r. ⌜ (r ≡ 0) × EncodingLaws ⌝ }
+{
+    0
+}
+
+pub fn lookup_laws() -> u64
+    ensures { λ r. ⌜ (r ≡ 0) × LookupLaws ⌝ }
 {
     0
 }

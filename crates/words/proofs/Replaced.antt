@@ -53,22 +53,19 @@ module _ (s : List ℕ) (i : ℕ) (b : List ℕ) (fits : i + length b ≤ length
   replaced-length = length-append (take i s ++ b) _ ∙ omega (arith, front-length, length-drop (i + length b) s)
 
   -- what stands before, in and after the stretch
-  pub replaced-take : take i (replaced s i b) ≡ take i s
+  replaced-take : take i (replaced s i b) ≡ take i s
   replaced-take = rw (append-assoc (take i s) b (drop (i + length b) s)) (take-at (take i s) _ i before-length)
 
   pub replaced-stretch : take (length b) (drop i (replaced s i b)) ≡ b
   replaced-stretch =
       rw (append-assoc (take i s) b (drop (i + length b) s), drop-at (take i s) (b ++ drop (i + length b) s) i before-length) (take-at b _ (length b) refl)
 
-  pub replaced-drop : drop (i + length b) (replaced s i b) ≡ drop (i + length b) s
+  replaced-drop : drop (i + length b) (replaced s i b) ≡ drop (i + length b) s
   replaced-drop = drop-at (take i s ++ b) _ (i + length b) front-length
 
   -- the same by bytes
   pub replaced-before : (k : ℕ) → k < i → byteAt (replaced s i b) k ≡ byteAt s k
   replaced-before k h = sym (getD-take i (replaced s i b) k 0 h) ∙ rw replaced-take (getD-take i s k 0 h)
-
-  pub replaced-inside : (k : ℕ) → k < length b → byteAt (replaced s i b) (i + k) ≡ byteAt b k
-  replaced-inside k h = sym (stretch-byte (replaced s i b) i (length b) k h) ∙ rw replaced-stretch refl
 
   pub replaced-after : (k : ℕ) → i + length b ≤ k → byteAt (replaced s i b) k ≡ byteAt s k
   replaced-after k h = sym (byte-behind (replaced s i b) (i + length b) k h) ∙ rw replaced-drop (byte-behind s (i + length b) k h)

@@ -30,7 +30,7 @@ unfoldable pub bitsOf : ℤ → ℕ
 bitsOf (pos n) = n
 bitsOf (negsuc n) = 65535 - n
 
--- the two bytes of a number
+-- the two bytes of a number of 16 bits
 unfoldable pub bytesOf : ℕ → List ℕ
 bytesOf w = (w % 256) ∷ (w / 256) ∷ []
 

@@ -32,6 +32,7 @@ pub fn bits_of(x: i32) -> u32
     if x < 0 { (x + 65536) as u32 } else { x as u32 }
 }
 
+// A byte as a 32-bit number; callers then know that it is below 256.
 pub fn wide(x: u8) -> u32
     ensures { λ r. ⌜ (r ≡ x) × (r < 256) ⌝ }
 {

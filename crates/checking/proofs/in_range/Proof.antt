@@ -1,10 +1,8 @@
+-- `checking::in_range` meets its contract. Assumes nothing.
 use Rattle.checking.proofs.Numbers.{bits-in}
 use Rattle.checking.proofs.in_range.Statement.{statement}
 use Rattle.checking.proofs.in_range.Tie as tie
-use Rattle.checking.proofs.in_range.Reads as reads
-use Rattle.checking.proofs.in_range.Lts as lts
 
--- src/lib.rt:130:1
 returns : tie.Need-returns
 returns c = bits-in _ (c .pre)
 

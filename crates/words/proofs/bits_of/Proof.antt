@@ -1,3 +1,4 @@
+-- `words::bits_of` meets its contract. Assumes nothing.
 use Prim.Native.Nat.{ℕ, _<_}
 use mathlib.Core.Path.{_≡_, _∙_, ap}
 use lib.IntN.{pos, natAbs}
@@ -28,15 +29,12 @@ module _ (c : lts.Else1 reads.Pre reads.Post) where
   high-bits : Bits (high .number) (bitsOf (c .before .args .x))
   high-bits = natural _ (c .before .pre) (not-less high (literal (pos 0)) (c .if1 .left))
 
--- src/lib.rt:31:10
 add-result : tie.Need-add-result
 add-result c = asks w32 (low c ⊞ literal (pos 65536)) tt
 
--- src/lib.rt:31:9
 cast-result : tie.Need-cast-result
 cast-result c = asks-unsigned w32 (sum c) (sum-bits c .sign) tt
 
--- src/lib.rt:33:9
 cast-result-2 : tie.Need-cast-result-2
 cast-result-2 c = asks-unsigned w32 (high c) (high-bits c .sign) tt
 
@@ -44,11 +42,9 @@ cast-result-2 c = asks-unsigned w32 (high c) (high-bits c .sign) tt
 cast : (x : Operand) {n : ℕ} → Bits (x .number) n → (natAbs (x .read) ≡ n) × (natAbs (x .read) < 65536)
 cast x h = let e = ap natAbs (x .reads) ∙ h .value in (e, rw e (h .small))
 
--- src/lib.rt:26:1
 returns : tie.Need-returns
 returns c = cast (sum c) (sum-bits c)
 
--- src/lib.rt:26:1
 returns-2 : tie.Need-returns-2
 returns-2 c = cast (high c) (high-bits c)
 

@@ -1,3 +1,4 @@
+-- `sheet::theorems::accepted_laws` meets its contract. Assumes nothing.
 use mathlib.Core.Path.{refl}
 use Rattle.sheet.proofs.WellFormed.{accepted-laws}
 use Rattle.sheet.proofs.theorems.accepted_laws.Statement.{statement}

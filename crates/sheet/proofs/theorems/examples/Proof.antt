@@ -1,3 +1,4 @@
+-- `sheet::theorems::examples` meets its contract. Assumes nothing.
 use mathlib.Core.Path.{refl}
 use Rattle.sheet.proofs.Examples.{examples}
 use Rattle.sheet.proofs.theorems.examples.Statement.{statement}

@@ -1,3 +1,4 @@
+-- `sheet::theorems::refusal_laws` meets its contract. Assumes nothing.
 use mathlib.Core.Path.{refl}
 use Rattle.sheet.proofs.FirstHolds.{refusal-laws}
 use Rattle.sheet.proofs.theorems.refusal_laws.Statement.{statement}

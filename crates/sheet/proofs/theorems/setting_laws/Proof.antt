@@ -1,3 +1,4 @@
+-- `sheet::theorems::setting_laws` meets its contract. Assumes nothing.
 use mathlib.Core.Path.{refl}
 use Rattle.sheet.proofs.Setting.{setting-laws}
 use Rattle.sheet.proofs.theorems.setting_laws.Statement.{statement}

@@ -1,3 +1,4 @@
+-- `words::theorems::word_laws` meets its contract. Assumes nothing.
 use mathlib.Core.Path.{refl}
 use Rattle.words.specs.Word.{WordLaws}
 use Rattle.words.proofs.Signs.{signed-bits, bits-signed}

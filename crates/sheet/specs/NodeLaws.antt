@@ -1,5 +1,5 @@
--- A node's numbers and bytes are inverse, and what setting a node changes and leaves. Assumes nothing.
-use Prim.Native.Nat.{ℕ, _+_, _≤_, _<_}
+-- Nodes: their numbers and bytes are inverse; what looking one up hands back; what setting one changes and leaves. Assumes nothing.
+use Prim.Native.Nat.{ℕ, _+_, _*_, _≤_, _<_}
 use mathlib.Core.Path.{_≡_}
 use mathlib.Core.List.{List}
 use mathlib.Core.Bool.{true}
@@ -7,16 +7,24 @@ use lib.ListN.{length}
 use Rattle.words.specs.Word.{byteAt, Bytes}
 use Rattle.sheet.specs.Format.{columns, rows, lineX, lineY, Node, decoded, encoded, nodeIn, nodeSize, nodeOffset, nodeAt}
 use Rattle.sheet.specs.Refusals.{lookupRefusal, settingRefusal, Accepted}
-use Rattle.sheet.specs.Calls.{lookedUp, bytesIn, withNode}
+use Rattle.sheet.specs.Calls.{span, lookedUp, bytesIn, withNode}
 
 -- a node's numbers and its bytes are inverse to each other on the range
-pub record NodeLaws : Type 0 where
+pub record EncodingLaws : Type 0 where
   pub encodedSize : (v : Node) → length (encoded v) ≡ nodeSize
   pub decodedEncoded : (v : Node) → nodeIn v ≡ true → decoded (encoded v) ≡ v
   pub encodedDecoded : (b : List ℕ) → Bytes b → length b ≡ nodeSize → encoded (decoded b) ≡ b
 
--- what setting node (i, j) of s to v leaves, t
-pub record Leaves (s : List ℕ) (i j : ℕ) (v : Node) (t : List ℕ) : Type 0 where
+-- looking up hands back the six bytes of the node, or, refused, none from the start
+pub record LookupLaws : Type 0 where
+  pub found : (s : List ℕ) (i j : ℕ) → lookupRefusal s i j ≡ 0 → lookedUp s i j ≡ span (8 + 2 * columns s + 2 * rows s + 6 * (j * columns s + i)) 6
+  pub refused : (s : List ℕ) (i j : ℕ) → (lookupRefusal s i j ≡ 0 → ⊥) → lookedUp s i j ≡ span 0 0
+  -- they lie in the sheet, and their numbers are the node's
+  pub fits : (s : List ℕ) (i j : ℕ) → lookedUp s i j .start + lookedUp s i j .size ≤ length s
+  pub numbers : (s : List ℕ) (i j : ℕ) → lookupRefusal s i j ≡ 0 → decoded (bytesIn s (lookedUp s i j)) ≡ nodeAt s i j
+
+-- what setting node (i, j) of s leaves, t
+pub record Leaves (s : List ℕ) (i j : ℕ) (t : List ℕ) : Type 0 where
   -- the length, and every byte outside the node; bytes stay bytes
   pub size : length t ≡ length s
   pub before : (k : ℕ) → k < nodeOffset s i j → byteAt t k ≡ byteAt s k
@@ -39,7 +47,7 @@ pub record ReadsBack (i j : ℕ) (v : Node) (t : List ℕ) : Type 0 where
   pub decodes : decoded (bytesIn t (lookedUp t i j)) ≡ v
 
 pub record SettingLaws : Type 0 where
-  pub leaves : (s : List ℕ) (i j : ℕ) (v : Node) → Leaves s i j v (withNode s i j v)
+  pub leaves : (s : List ℕ) (i j : ℕ) (v : Node) → Leaves s i j (withNode s i j v)
   pub refused : (s : List ℕ) (i j : ℕ) (v : Node) → (settingRefusal s i j v ≡ 0 → ⊥) → withNode s i j v ≡ s
   pub readsBack : (s : List ℕ) (i j : ℕ) (v : Node) → settingRefusal s i j v ≡ 0 → ReadsBack i j v (withNode s i j v)
   -- setting twice is the last one

@@ -1,0 +1,38 @@
+-- What looking up a node hands back. Assumes nothing.
+use Prim.Native.Nat.{ℕ, _+_, _≤_}
+use mathlib.Core.Path.{_≡_, refl}
+use mathlib.Core.List.{List}
+use native.Mathlib.Decide.{ℕ-discrete}
+use native.Mathlib.Omega.{arith}
+use lib.ListN.{length}
+use borrow.Author.Tests.{eq-eqb, ne-eqb}
+use Rattle.sheet.specs.Format.{decoded, nodeSize, nodeOffset, nodeAt}
+use Rattle.sheet.specs.Refusals.{lookupRefusal}
+use Rattle.sheet.specs.Calls.{span, lookedUp, bytesIn}
+use Rattle.sheet.specs.NodeLaws.{LookupLaws}
+use Rattle.sheet.proofs.Chains.{lookup-held}
+use Rattle.sheet.proofs.WellFormed.{accepted-laws}
+use Rattle.sheet.proofs.Offsets.{node-fits}
+
+found : (s : List ℕ) (i j : ℕ) → lookupRefusal s i j ≡ 0 → lookedUp s i j ≡ span (nodeOffset s i j) nodeSize
+unfolding lookedUp
+found s i j e = rw (eq-eqb _ _ e) refl
+
+refused : (s : List ℕ) (i j : ℕ) → ¬ (lookupRefusal s i j ≡ 0) → lookedUp s i j ≡ span 0 0
+unfolding lookedUp
+refused s i j h = rw (ne-eqb _ _ h) refl
+
+-- a node that is found lies in the sheet
+pub node-there : (s : List ℕ) (i j : ℕ) → lookupRefusal s i j ≡ 0 → nodeOffset s i j + nodeSize ≤ length s
+node-there s i j e = let n = lookup-held s i j e in node-fits (accepted-laws .sound s (n .accepted)) i j (n .column) (n .row)
+
+fits : (s : List ℕ) (i j : ℕ) → lookedUp s i j .start + lookedUp s i j .size ≤ length s
+fits s i j =
+    elim (ℕ-discrete (lookupRefusal s i j) 0) [ yes e ↦ rw (found s i j e) (node-there s i j e) | no h ↦ rw (refused s i j h) (omega arith) ]
+
+numbers : (s : List ℕ) (i j : ℕ) → lookupRefusal s i j ≡ 0 → decoded (bytesIn s (lookedUp s i j)) ≡ nodeAt s i j
+unfolding nodeAt
+numbers s i j e = rw (found s i j e) refl
+
+pub lookup-laws : LookupLaws
+lookup-laws = record { found = found; refused = refused; fits = fits; numbers = numbers }
