@@ -9,9 +9,10 @@ ghost use Rattle.sheet.specs.Refusals.{some, otherMark, otherVersion, otherCoun
 use words::wide;
 use words::word;
 
-// How many bytes the header has, and a node.
+// How many bytes the header has.
 pub const HEADER_SIZE: usize = 8;
 
+// How many bytes a node has.
 pub const NODE_SIZE: usize = 6;
 
 // 0 where the sheet is accepted, else the number of the first condition that holds.

@@ -63,6 +63,7 @@ pub fn set_node(
     0
 }
 
+// The bytes of a node that the sheet has.
 fn found(sheet: &[u8], column: u32, row: u32) -> &[u8]
     requires { ⌜ lookupRefusal (now sheet) column row ≡ 0 ⌝ }
     ensures { λ r. ⌜ Part (sheet .entry) r (span (nodeOffset (now (sheet .entry)) column row) nodeSize) ⌝ }
@@ -100,6 +101,7 @@ fn in_range(x: i32) -> bool
     (-4095 <= x) & (x <= 4095)
 }
 
+// Writes a node's numbers to the bytes at index `at`.
 fn put_node(sheet: &mut [u8], at: usize, height: i32, x_slope: i32, y_slope: i32)
     requires { ⌜ at + nodeSize ≤ length (now sheet) ⌝ }
     requires { ⌜ wrongNumbers (node height «x_slope» «y_slope») ≡ false ⌝ }
