@@ -1,7 +1,7 @@
 -- The laws of `some` by which a loop gathers a flag, and by which one loop over all numbers does for loops over rows, nodes and their numbers. Assumes nothing.
 use Prim.Native.Nat.{ℕ, zero, suc, _+_, _*_, _≤_}
 use mathlib.Core.Path.{_≡_, refl, sym}
-use mathlib.Core.Bool.{Bool, true, false, _||_}
+use mathlib.Core.Bool.{Bool, _||_, or-false, or-assoc}
 use native.Mathlib.Nat.{le-antisymm, add-zero, add-suc, zero-mul, suc-mul}
 use native.Mathlib.Numerals.{add-one}
 use Rattle.sheet.specs.Refusals.{some}
@@ -22,18 +22,10 @@ unfolding some
 some-cong p q zero h = refl
 some-cong p q (suc n) h = rw (some-cong p q n h, h n) refl
 
-or-assoc : (a b c : Bool) → a || (b || c) ≡ a || b || c
-or-assoc true b c = refl
-or-assoc false b c = refl
-
-pub or-none : (a : Bool) → a || false ≡ a
-or-none true = refl
-or-none false = refl
-
-pub some-append : (p : ℕ → Bool) (a b : ℕ) → some p (a + b) ≡ some p a || some (λ k. p (a + k)) b
+some-append : (p : ℕ → Bool) (a b : ℕ) → some p (a + b) ≡ some p a || some (λ k. p (a + k)) b
 unfolding some
-some-append p a zero = rw (add-zero a) (sym (or-none (some p a)))
-some-append p a (suc b) = rw (add-suc a b, some-append p a b) (sym (or-assoc (some p a) _ _))
+some-append p a zero = rw (add-zero a) (sym (or-false (some p a)))
+some-append p a (suc b) = rw (add-suc a b, some-append p a b) (or-assoc (some p a) _ _)
 
 -- n rows of m each
 pub some-rows : (p : ℕ → Bool) (m n : ℕ) → some p (n * m) ≡ some (λ j. some (λ i. p (j * m + i)) m) n

@@ -2,7 +2,7 @@
 use Prim.Native.Nat.{ℕ, suc, _+_, _*_, _-_, _≤_, _<_}
 use mathlib.Core.Path.{_≡_, refl, sym, _∙_, ap}
 use mathlib.Core.List.{List}
-use mathlib.Core.Bool.{Bool, true, false, not, _&&_, _||_}
+use mathlib.Core.Bool.{Bool, true, false, not, _&&_, _||_, or-false}
 use native.Mathlib.Nat.{mul-comm}
 use native.Mathlib.Omega.{arith}
 use lib.Dec.{leb, ltb, ltb→lt, nltb→le, lit<}
@@ -13,7 +13,7 @@ use Rattle.words.specs.Word.{byteAt, wordAt, signed}
 use Rattle.words.proofs.Replaced.{stretch-byte}
 use Rattle.sheet.specs.Format.{columns, rows, decoded, heightIn, slopeIn, nodeIn, nodesOffset, nodeSize, nodeOffset, nodeBytes, nodeAt}
 use Rattle.sheet.specs.Refusals.{some, wrongNodes}
-use Rattle.checking.proofs.Gathered.{some-cong, some-rows, or-none}
+use Rattle.checking.proofs.Gathered.{some-cong, some-rows}
 
 -- ---- the range, by the 16 bits
 
@@ -31,7 +31,7 @@ pub bits-in : (w : ℕ) → w < 65536 → leb w 4095 || leb 61441 w ≡ slopeIn 
 unfolding signed slopeIn
 bits-in w h =
     cond-ind (ltb w 32768) (pos w) (negsuc (65535 - w)) (λ z. leb w 4095 || leb 61441 w ≡ leb (natAbs z) 4095)
-    (λ t. let k = ltb→lt w 32768 t in rw (lt-leb 61441 w (omega (arith, k))) (or-none (leb w 4095)))
+    (λ t. let k = ltb→lt w 32768 t in rw (lt-leb 61441 w (omega (arith, k))) (or-false (leb w 4095)))
     (λ t. let k = nltb→le w 32768 t in
     rw (lt-leb w 4095 (omega (arith, k))) (same-test 61441 w (suc (65535 - w)) 4095 (λ q. omega (arith, q, h)) (λ q. omega (arith, q, h))))
 
@@ -44,7 +44,7 @@ not-and false b c = refl
 
 module _ (s : List ℕ) where
   -- number k of all is out of range
-  abbrev pub wrongNumber : ℕ → Bool
+  abbrev wrongNumber : ℕ → Bool
   wrongNumber k = not (slopeIn (signed (wordAt s (nodesOffset s + 2 * k))))
 
   module _ (i j : ℕ) where

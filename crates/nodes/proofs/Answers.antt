@@ -1,16 +1,15 @@
 -- What a refusal, a lookup and a setting come to, from the answers that the code has. Assumes nothing.
 use Prim.Native.Nat.{ℕ, _≤_}
-use mathlib.Core.Path.{_≡_, refl, sym, _∙_, ap}
+use mathlib.Core.Path.{_≡_, sym, _∙_, ap}
 use mathlib.Core.List.{List}
 use mathlib.Core.Bool.{Bool, true, false, cond}
 use native.Mathlib.Omega.{arith}
 use lib.ListN.{length}
-use borrow.Author.Tests.{eq-eqb}
 use Rattle.words.specs.Word.{replaced}
 use Rattle.sheet.specs.Format.{headerSize, Node, encoded, nodeSize, nodeOffset}
 use Rattle.sheet.specs.Refusals.{noNode, wrongNumbers, checkRefusal, lookupRefusal, settingRefusal, Accepted}
 use Rattle.sheet.specs.Calls.{span, lookedUp, withNode}
-use Rattle.sheet.proofs.Chains.{orElse, refused-or, lookup-is, setting-is, lookup-held}
+use Rattle.sheet.proofs.Chains.{orElse, zero-or, refused-or, lookup-is, setting-is, lookup-held}
 use Rattle.sheet.proofs.WellFormed.{accepted-laws}
 use Rattle.sheet.proofs.Lookup.{lookup-laws}
 use Rattle.sheet.proofs.Setting.{set-is, refused-is}
@@ -31,7 +30,7 @@ refused : {m r : ℕ} (n k : ℕ) → m ≡ orElse n k → r ≡ n → (r ≡ 0 
 refused n k q e h = e ∙ sym (q ∙ refused-or n k (λ z. h (e ∙ z)))
 
 passed : {m r : ℕ} (n k : ℕ) → m ≡ orElse n k → r ≡ n → r ≡ 0 → k ≡ m
-passed n k q e h = sym (q ∙ rw (eq-eqb n 0 (sym e ∙ h)) refl)
+passed n k q e h = sym (q ∙ zero-or n k (sym e ∙ h))
 
 -- ---- the lookup's
 

@@ -2,22 +2,22 @@
 use Prim.Native.Nat.{ℕ, _+_, _≤_}
 use mathlib.Core.Path.{_≡_, refl, sym, _∙_, ap}
 use mathlib.Core.List.{List, _++_}
-use mathlib.Core.Bool.{Bool, true, false, not, _&&_, and-true, and-eq-true-iff}
+use mathlib.Core.Bool.{Bool, false, not, _&&_, and-true}
 use native.Mathlib.Omega.{arith}
 use lib.ListN.{length}
 use lib.Dec.{leb, leb·suc-suc}
-use lib.IntN.{ℤ, pos, negsuc, natAbs}
+use lib.IntN.{ℤ, pos, negsuc}
 use lib.Signed.{leZ}
 use mir.Syntax.{w32}
 use mir.Val.{SFits, toZ, ofZ}
 use mir.ValLaws.{toZ-ofZ}
-use borrow.Author.Tests.{leb-true, not-false}
 use Rattle.integers.specs.Within.{_within_}
-use Rattle.integers.proofs.Bounds.{is-within}
+use Rattle.integers.proofs.Bounds.{within-mono}
 use Rattle.words.specs.Word.{bitsOf, bytesOf, replaced}
 use Rattle.words.proofs.Replaced.{replaced-on}
 use Rattle.sheet.specs.Format.{Node, node, nodeSize, encoded, heightIn, slopeIn, nodeIn}
 use Rattle.sheet.specs.Refusals.{wrongNumbers}
+use Rattle.sheet.proofs.Conditions.{condition-laws}
 
 -- ---- the range
 
@@ -27,15 +27,11 @@ in-range (pos n) = refl
 in-range (negsuc n) = and-true (leb n 4094) ∙ sym (leb·suc-suc n 4094)
 
 -- numbers in range have 16 bits
-short : (z : ℤ) → leb (natAbs z) 4095 ≡ true → z within 32767
-short z e = is-within z (omega (arith, leb-true (natAbs z) 4095 e))
-
 pub fit : (h x y : ℤ) → wrongNumbers (node h x y) ≡ false → (h within 32767) × (x within 32767) × (y within 32767)
-unfolding wrongNumbers nodeIn heightIn slopeIn
 fit h x y e =
-    let n = and-eq-true-iff _ _ .0 (not-false _ e) in
-    let m = and-eq-true-iff _ _ .0 (n .0) in
-    (short h (m .0), short x (m .1), short y (n .1))
+    let r = condition-laws .eleven (node h x y) .0 e in
+    let wide : 4095 ≤ 32767 = omega arith in
+    (within-mono (r .storedHeight) wide, within-mono (r .slopeX) wide, within-mono (r .slopeY) wide)
 
 -- ---- what the code hands on: u is v as the machine reads it back
 

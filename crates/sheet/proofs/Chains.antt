@@ -2,14 +2,15 @@
 use Prim.Native.Nat.{ℕ, suc, _<_}
 use mathlib.Core.Path.{_≡_, refl, sym, _∙_}
 use mathlib.Core.List.{List, [], _∷_, _++_}
-use mathlib.Core.Bool.{Bool, true, false, cond, _&&_, _||_, true≢false}
+use mathlib.Core.Bool.{Bool, true, false, cond, _&&_}
 use native.Mathlib.Omega.{arith}
-use lib.Dec.{T, eqb, ltb, leb, ltb→lt}
-use borrow.Author.Tests.{eqb-true, eqb-false, leb-false, eq-eqb, ne-eqb, lt-leb, not-false}
+use lib.Dec.{T, eqb, ltb, ltb→lt}
+use borrow.Author.Tests.{eqb-true, eqb-false, eq-eqb, ne-eqb, not-false}
 use Rattle.integers.proofs.Deduce.{both}
 use Rattle.sheet.specs.Format.{columns, rows, Node, nodeIn}
 use Rattle.sheet.specs.Refusals.{Input, Rule, rule, otherMark, otherVersion, otherCounts, otherLength, wrongLines, wrongNodes, noNode, wrongNumbers, table, first, member, part, sheetChecks, lookupChecks, zeroNode, atNode, checkRefusal, lookupRefusal, settingRefusal, Accepted}
 use Rattle.sheet.specs.RefusalLaws.{Each}
+use Rattle.sheet.proofs.Conditions.{condition-laws}
 
 pub check-is : (s : List ℕ)
     → checkRefusal s ≡ cond (otherMark s) 1 (cond (otherVersion s) 2 (cond (otherCounts s) 3 (cond (otherLength s) 4 (cond (wrongLines s) 5 (cond (wrongNodes s) 6 0)))))
@@ -58,7 +59,7 @@ first-append (r ∷ t) more u h = by (r .condition u) (first-append t more u (h 
     by true e = rw (ne-eqb (r .number) 0 (h .0)) refl
     by false e = e
 
-zero-or : (n k : ℕ) → n ≡ 0 → orElse n k ≡ k
+pub zero-or : (n k : ℕ) → n ≡ 0 → orElse n k ≡ k
 zero-or n k e = rw (eq-eqb n 0 e) refl
 
 pub refused-or : (n k : ℕ) → (n ≡ 0 → ⊥) → orElse n k ≡ n
@@ -71,11 +72,6 @@ or-zero n k e = by (eqb n 0) refl
     by : (b : Bool) → eqb n 0 ≡ b → (n ≡ 0) × (k ≡ 0)
     by true q = (eqb-true n 0 q, sym (zero-or n k (eqb-true n 0 q)) ∙ e)
     by false q = absurd (eqb-false n 0 q (sym (refused-or n k (eqb-false n 0 q)) ∙ e))
-
--- neither holds
-pub or-false : (a b : Bool) → a || b ≡ false → (a ≡ false) × (b ≡ false)
-or-false true b e = absurd (true≢false e)
-or-false false b e = (refl, e)
 
 -- ---- looking up is refused as checking is, then by 10; setting as looking up, then by 11
 
@@ -99,16 +95,16 @@ pub record HasNode (s : List ℕ) (i j : ℕ) : Type 0 where
   pub row : j < rows s
 
 pub lookup-held : (s : List ℕ) (i j : ℕ) → lookupRefusal s i j ≡ 0 → HasNode s i j
-unfolding Accepted noNode
+unfolding Accepted
 lookup-held s i j e =
     let h = or-zero _ _ (sym (lookup-is s i j) ∙ e) in
-    let n = or-false (leb (columns s) i) _ (not-given (noNode s i j) 9 (h .1)) in
-    record { accepted = h .0; column = leb-false _ _ (n .0); row = leb-false _ _ (n .1) }
+    let n = condition-laws .ten s i j .0 (not-given (noNode s i j) 9 (h .1)) in
+    record { accepted = h .0; column = n .0; row = n .1 }
 
 pub lookup-taken : {s : List ℕ} {i j : ℕ} → HasNode s i j → lookupRefusal s i j ≡ 0
-unfolding Accepted noNode
+unfolding Accepted
 lookup-taken {s} {i} {j} h =
-    lookup-is s i j ∙ zero-or (checkRefusal s) _ (h .accepted) ∙ rw (lt-leb (columns s) i (h .column), lt-leb (rows s) j (h .row)) refl
+    lookup-is s i j ∙ zero-or (checkRefusal s) _ (h .accepted) ∙ rw (condition-laws .ten s i j .1 (h .column, h .row)) refl
 
 pub setting-held : (s : List ℕ) (i j : ℕ) (v : Node) → settingRefusal s i j v ≡ 0 → HasNode s i j × (nodeIn v ≡ true)
 unfolding wrongNumbers

@@ -1,9 +1,9 @@
-pub mod Chains
 pub mod Some
 pub mod Meaning
-pub mod FirstHolds
 pub mod Ranges
 pub mod Conditions
+pub mod Chains
+pub mod FirstHolds
 pub mod WellFormed
 pub mod Encoding
 pub mod Offsets

@@ -10,7 +10,7 @@ use Rattle.sheet.specs.Format.{decoded, nodeSize, nodeOffset, nodeAt}
 use Rattle.sheet.specs.Refusals.{lookupRefusal}
 use Rattle.sheet.specs.Calls.{span, lookedUp, bytesIn}
 use Rattle.sheet.specs.NodeLaws.{LookupLaws}
-use Rattle.sheet.proofs.Chains.{lookup-held}
+use Rattle.sheet.proofs.Chains.{HasNode, lookup-held}
 use Rattle.sheet.proofs.WellFormed.{accepted-laws}
 use Rattle.sheet.proofs.Offsets.{node-fits}
 
@@ -22,9 +22,12 @@ refused : (s : List ℕ) (i j : ℕ) → ¬ (lookupRefusal s i j ≡ 0) → look
 unfolding lookedUp
 refused s i j h = rw (ne-eqb _ _ h) refl
 
--- a node that is found lies in the sheet
+-- a node that the sheet has lies in it
+pub has-fits : {s : List ℕ} {i j : ℕ} → HasNode s i j → nodeOffset s i j + nodeSize ≤ length s
+has-fits {s} {i} {j} h = node-fits (accepted-laws .sound s (h .accepted)) i j (h .column) (h .row)
+
 pub node-there : (s : List ℕ) (i j : ℕ) → lookupRefusal s i j ≡ 0 → nodeOffset s i j + nodeSize ≤ length s
-node-there s i j e = let n = lookup-held s i j e in node-fits (accepted-laws .sound s (n .accepted)) i j (n .column) (n .row)
+node-there s i j e = has-fits (lookup-held s i j e)
 
 fits : (s : List ℕ) (i j : ℕ) → lookedUp s i j .start + lookedUp s i j .size ≤ length s
 fits s i j =

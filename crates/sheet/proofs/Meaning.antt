@@ -3,10 +3,10 @@ use Prim.Native.Nat.{ℕ, _≤_, _<_}
 use mathlib.Core.Path.{_≡_}
 use mathlib.Core.Logic.{_↔_}
 use mathlib.Core.Bool.{Bool, true, false, not, _&&_, _||_, and-eq-true-iff}
+use mathlib.Mathlib.Data.Bool.Basic.{or-eq-false-eq-eq-false-and-eq-false}
 use lib.Dec.{ltb, leb, eqb}
 use borrow.Author.Tests.{ltb-false, leb-true, leb-false, eqb-true, le-ltb, le-leb, lt-leb, eq-eqb, not-false}
 use Rattle.sheet.specs.Refusals.{some}
-use Rattle.sheet.proofs.Chains.{or-false}
 use Rattle.sheet.proofs.Some.{some-false, some-false-at}
 
 -- ---- where it fails
@@ -22,7 +22,7 @@ not-fails {b} h = (λ e. h .0 (not-false b e), λ x. rw (h .1 x))
 
 pub or-fails : {a b : Bool} {A B : Type 0} → (a ≡ false) ↔ A → (b ≡ false) ↔ B → (a || b ≡ false) ↔ (A × B)
 or-fails {a} {b} h k = (
-  λ e. let (f, g) = or-false a b e in (h .0 f, k .0 g),
+  λ e. let (f, g) = or-eq-false-eq-eq-false-and-eq-false a b .0 e in (h .0 f, k .0 g),
   λ x. rw (h .1 (x .0)) (k .1 (x .1)),
 )
 

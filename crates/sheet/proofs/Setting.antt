@@ -18,7 +18,7 @@ use Rattle.sheet.proofs.Chains.{HasNode, lookup-held, lookup-taken, set
 use Rattle.sheet.proofs.Ranges.{node-in}
 use Rattle.sheet.proofs.WellFormed.{accepted-laws}
 use Rattle.sheet.proofs.Encoding.{encoded-bytes, encoding-laws}
-use Rattle.sheet.proofs.Offsets.{node-fits}
+use Rattle.sheet.proofs.Lookup.{has-fits}
 use Rattle.sheet.proofs.SameFront.{SameFront, same-columns, same-rows, same-lineX, same-lineY}
 use Rattle.sheet.proofs.Written.{written, written-length, written-before, written-after, written-bytes, written-node, written-others, written-again, written-same, written-well-formed}
 
@@ -43,18 +43,15 @@ with-node-ind s i j v P old new =
 well-formed : {s : List ℕ} {i j : ℕ} → HasNode s i j → WellFormed s
 well-formed {s} h = accepted-laws .sound s (h .accepted)
 
-fits : {s : List ℕ} {i j : ℕ} → HasNode s i j → nodeOffset s i j + nodeSize ≤ length s
-fits {s} {i} {j} h = node-fits (well-formed h) i j (h .column) (h .row)
-
 module _ (s : List ℕ) (i j : ℕ) (v : Node) where
   size : length (withNode s i j v) ≡ length s
-  size = with-node-ind s i j v (λ t. length t ≡ length s) refl (λ h n. written-length s i j v (fits h))
+  size = with-node-ind s i j v (λ t. length t ≡ length s) refl (λ h n. written-length s i j v (has-fits h))
 
   before : (k : ℕ) → k < nodeOffset s i j → byteAt (withNode s i j v) k ≡ byteAt s k
-  before k l = with-node-ind s i j v (λ t. byteAt t k ≡ byteAt s k) refl (λ h n. written-before s i j v (fits h) k l)
+  before k l = with-node-ind s i j v (λ t. byteAt t k ≡ byteAt s k) refl (λ h n. written-before s i j v (has-fits h) k l)
 
   after : (k : ℕ) → nodeOffset s i j + nodeSize ≤ k → byteAt (withNode s i j v) k ≡ byteAt s k
-  after k l = with-node-ind s i j v (λ t. byteAt t k ≡ byteAt s k) refl (λ h n. written-after s i j v (fits h) k l)
+  after k l = with-node-ind s i j v (λ t. byteAt t k ≡ byteAt s k) refl (λ h n. written-after s i j v (has-fits h) k l)
 
   -- ---- the lines stay
 
@@ -84,9 +81,9 @@ module _ (s : List ℕ) (i j : ℕ) (v : Node) where
   reads-back e =
       let (has, n) = setting-held s i j v e in
       let found = lookup-taken (still-has has) in
-      let bytes : bytesIn (withNode s i j v) (lookedUp (withNode s i j v) i j) ≡ encoded v = rw (eq-eqb _ _ found, set-is s i j v e) (written-bytes s i j v (fits has)) in
+      let bytes : bytesIn (withNode s i j v) (lookedUp (withNode s i j v) i j) ≡ encoded v = rw (eq-eqb _ _ found, set-is s i j v e) (written-bytes s i j v (has-fits has)) in
       record {
-        numbers = rw (set-is s i j v e) (written-node s i j v (fits has) n);
+        numbers = rw (set-is s i j v e) (written-node s i j v (has-fits has) n);
         found = found;
         handedBack = bytes;
         decodes = rw bytes (encoding-laws .decodedEncoded v n);
@@ -96,7 +93,7 @@ module _ (s : List ℕ) (i j : ℕ) (v : Node) where
 
   others : (i′ j′ : ℕ) → i′ < columns s → ((i′ ≡ i) × (j′ ≡ j) → ⊥) → nodeAt (withNode s i j v) i′ j′ ≡ nodeAt s i′ j′
   others i′ j′ l other =
-      with-node-ind s i j v (λ t. nodeAt t i′ j′ ≡ nodeAt s i′ j′) refl (λ h n. written-others s i j v (fits h) i′ j′ (h .column) l other)
+      with-node-ind s i j v (λ t. nodeAt t i′ j′ ≡ nodeAt s i′ j′) refl (λ h n. written-others s i j v (has-fits h) i′ j′ (h .column) l other)
 
 -- ---- setting twice, and setting what is there
 
@@ -104,11 +101,11 @@ twice : (s : List ℕ) (i j : ℕ) (v w : Node) → settingRefusal s i j w ≡ 0
 twice s i j v w e =
     let (h, n) = setting-held s i j w e in
     set-is _ i j w (setting-taken w (still-has s i j v h) n)
-    ∙ with-node-ind s i j v (λ t. written t i j w ≡ written s i j w) refl (λ h n. written-again s i j v (fits h) w)
+    ∙ with-node-ind s i j v (λ t. written t i j w ≡ written s i j w) refl (λ h n. written-again s i j v (has-fits h) w)
     ∙ sym (set-is s i j w e)
 
 same : (s : List ℕ) (i j : ℕ) → Bytes s → withNode s i j (nodeAt s i j) ≡ s
-same s i j bytes = with-node-ind s i j (nodeAt s i j) (λ t. t ≡ s) refl (λ h n. written-same s i j (fits h) bytes)
+same s i j bytes = with-node-ind s i j (nodeAt s i j) (λ t. t ≡ s) refl (λ h n. written-same s i j (has-fits h) bytes)
 
 same-taken : (s : List ℕ) (i j : ℕ) → lookupRefusal s i j ≡ 0 → settingRefusal s i j (nodeAt s i j) ≡ 0
 same-taken s i j e =

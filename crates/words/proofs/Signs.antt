@@ -12,6 +12,11 @@ use Rattle.words.specs.Word.{signed, bitsOf}
 
 -- ---- what `bits_of` asks and gives: a negative number has 65,536 added
 
+pub bits-small : {z : ℤ} → z within 32767 → bitsOf z < 65536
+unfolding bitsOf
+bits-small {z = pos n} w = omega (arith, w .bound)
+bits-small {z = negsuc n} w = omega arith
+
 pub record Bits (z : ℤ) (n : ℕ) : Type 0 where
   pub sign : pos 0 ≤ℤ z
   pub value : natAbs z ≡ n
@@ -22,17 +27,12 @@ unfolding bitsOf
 negative (pos n) w h = let k : n < 0 = ltb→lt n 0 (h .lt) in absurd (omega arith)
 negative (negsuc n) w h =
     let e : negsuc n +ℤ pos 65536 ≡ pos (65535 - n) = subℕ-pos 65536 (suc n) (65535 - n) (omega (arith, w .bound)) in
-    record { sign = rw e (pos-nonneg _); value = rw e refl; small = omega (arith, w .bound) }
+    record { sign = rw e (pos-nonneg _); value = rw e refl; small = bits-small w }
 
 pub natural : (z : ℤ) → z within 32767 → pos 0 ≤ℤ z → Bits z (bitsOf z)
 unfolding bitsOf
-natural (pos n) w h = record { sign = h; value = refl; small = omega (arith, w .bound) }
+natural (pos n) w h = record { sign = h; value = refl; small = bits-small w }
 natural (negsuc n) w h = absurd (h .le)
-
-pub bits-small : {z : ℤ} → z within 32767 → bitsOf z < 65536
-unfolding bitsOf
-bits-small {z = pos n} w = omega (arith, w .bound)
-bits-small {z = negsuc n} w = omega arith
 
 -- ---- they are inverse
 
