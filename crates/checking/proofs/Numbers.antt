@@ -10,7 +10,7 @@ use lib.IntN.{pos, negsuc, natAbs}
 use borrow.Author.Tests.{leb-true, le-leb, lt-leb}
 use Rattle.integers.proofs.Order.{cond-ind}
 use Rattle.words.specs.Word.{byteAt, wordAt, signed}
-use Rattle.words.proofs.Replaced.{stretch-byte}
+use Rattle.words.proofs.Replaced.{stretch-word}
 use Rattle.sheet.specs.Format.{columns, rows, decoded, heightIn, slopeIn, nodeIn, nodesOffset, nodeSize, nodeOffset, nodeBytes, nodeAt}
 use Rattle.sheet.specs.Refusals.{some, wrongNodes}
 use Rattle.checking.proofs.Gathered.{some-cong, some-rows}
@@ -51,11 +51,8 @@ module _ (s : List ℕ) where
     -- the k-th of a node's numbers, among those of all nodes
     node-word : (k w : ℕ) → 2 * k ≡ w → w + 1 < nodeSize → wordAt (nodeBytes s i j) w ≡ wordAt s (nodesOffset s + 2 * ((j * columns s + i) * 3 + k))
     node-word k w e h =
-        let low : nodeOffset s i j + w ≡ nodesOffset s + 2 * ((j * columns s + i) * 3 + k) = omega (arith, e) in
-        let high : nodeOffset s i j + (w + 1) ≡ nodesOffset s + 2 * ((j * columns s + i) * 3 + k) + 1 = omega (arith, e) in
-        let a = stretch-byte s _ nodeSize w (omega (arith, h)) ∙ ap (byteAt s) low in
-        let b = stretch-byte s _ nodeSize (w + 1) h ∙ ap (byteAt s) high in
-        λ t. a t + b t * 256
+        let at : nodeOffset s i j + w ≡ nodesOffset s + 2 * ((j * columns s + i) * 3 + k) = omega (arith, e) in
+        stretch-word s _ nodeSize w h ∙ ap (wordAt s) at
 
     -- the number at index w of a node's bytes is in range
     fits : ℕ → Bool

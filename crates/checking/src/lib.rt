@@ -4,8 +4,8 @@ ghost use mathlib.Core.Bool.{false, not};
 ghost use Prim.Native.Nat.{_+_, _*_, _≤_, _<_};
 ghost use lib.ListN.{length};
 ghost use Rattle.words.specs.Word.{wordAt, signed};
-ghost use Rattle.sheet.specs.Format.{headerSize, columns, rows, countIn, slopeIn, nodesOffset, sizeOf};
-ghost use Rattle.sheet.specs.Refusals.{some, otherMark, otherVersion, otherCounts, otherLength, wrongStep, wrongLine, wrongLines, wrongNodes, checkRefusal};
+ghost use Rattle.sheet.specs.Format.{headerSize, columns, rows, countIn, slopeIn, nodeSize, nodesOffset, nodeOffset, sizeOf};
+ghost use Rattle.sheet.specs.Refusals.{some, otherMark, otherVersion, otherCounts, otherLength, wrongStep, wrongLine, wrongLines, wrongNodes, checkRefusal, Accepted};
 use words::wide;
 use words::word;
 
@@ -150,6 +150,14 @@ pub fn nodes_offset(sheet: &[u8]) -> usize
     ensures { λ r. ⌜ (r ≡ nodesOffset (now (sheet .entry))) × (r ≤ 1028) ⌝ }
 {
     HEADER_SIZE + 2 * columns(sheet) + 2 * rows(sheet)
+}
+
+// Where a node's bytes start.
+pub fn node_offset(sheet: &[u8], column: usize, row: usize) -> usize
+    requires { ⌜ Accepted (now sheet) × (column < columns (now sheet)) × (row < rows (now sheet)) ⌝ }
+    ensures { λ r. ⌜ (r ≡ nodeOffset (now (sheet .entry)) column row) × (r + nodeSize ≤ length (now (sheet .entry))) ⌝ }
+{
+    nodes_offset(sheet) + NODE_SIZE * (row * columns(sheet) + column)
 }
 
 fn node_count(sheet: &[u8]) -> usize

@@ -3,6 +3,9 @@ ghost use mathlib.Core.Path.{_≡_};
 ghost use Rattle.sheet.specs.Format.{node};
 ghost use Rattle.sheet.specs.Refusals.{checkRefusal, lookupRefusal, settingRefusal};
 ghost use Rattle.sheet.specs.Calls.{lookedUp, Part, withNode};
+ghost use Rattle.answers.specs.Answers.{outcome};
+ghost use Rattle.surface.specs.Read.{read};
+use answers::Answer;
 
 // Checks a sheet: 0 where it is accepted, else the number of the first of the conditions 1 to 6 that holds.
 pub fn check(sheet: &[u8]) -> u32
@@ -39,4 +42,11 @@ pub fn set_node(
     ensures sheet { λ r. ⌜ now (sheet .exit) ≡ withNode (now (sheet .entry)) column row (node height «x_slope» «y_slope») ⌝ }
 {
     nodes::set_node(sheet, column, row, height, x_slope, y_slope)
+}
+
+// Reads at the pixel (x, y): kind 0 is the level, 1 the tilt (x, y), 2 the bend (xx, xy, yy), each in steps; or `Refused` with the number (1 to 6, 7, 9).
+pub fn read(sheet: &[u8], x: u32, y: u32, kind: u32) -> Answer
+    ensures { λ r. ⌜ outcome r ≡ read (now (sheet .entry)) x y kind ⌝ }
+{
+    pixels::read(sheet, x, y, kind)
 }

@@ -1,28 +1,16 @@
 -- What a refusal, a lookup and a setting come to, from the answers that the code has. Assumes nothing.
-use Prim.Native.Nat.{ℕ, _≤_}
+use Prim.Native.Nat.{ℕ}
 use mathlib.Core.Path.{_≡_, sym, _∙_, ap}
 use mathlib.Core.List.{List}
 use mathlib.Core.Bool.{Bool, true, false, cond}
 use native.Mathlib.Omega.{arith}
-use lib.ListN.{length}
 use Rattle.words.specs.Word.{replaced}
-use Rattle.sheet.specs.Format.{headerSize, Node, encoded, nodeSize, nodeOffset}
-use Rattle.sheet.specs.Refusals.{noNode, wrongNumbers, checkRefusal, lookupRefusal, settingRefusal, Accepted}
+use Rattle.sheet.specs.Format.{Node, encoded, nodeSize, nodeOffset}
+use Rattle.sheet.specs.Refusals.{noNode, wrongNumbers, checkRefusal, lookupRefusal, settingRefusal}
 use Rattle.sheet.specs.Calls.{span, lookedUp, withNode}
-use Rattle.sheet.proofs.Chains.{orElse, zero-or, refused-or, lookup-is, setting-is, lookup-held}
-use Rattle.sheet.proofs.WellFormed.{accepted-laws}
+use Rattle.sheet.proofs.Chains.{orElse, zero-or, refused-or, lookup-is, setting-is}
 use Rattle.sheet.proofs.Lookup.{lookup-laws}
 use Rattle.sheet.proofs.Setting.{set-is, refused-is}
-
--- ---- what the code may read
-
-pub header-read : (s : List ℕ) → checkRefusal s ≡ 0 → headerSize ≤ length s
-unfolding Accepted
-header-read s h = omega (arith, accepted-laws .sound s h .whole)
-
-pub header-there : (s : List ℕ) (i j : ℕ) → lookupRefusal s i j ≡ 0 → headerSize ≤ length s
-unfolding Accepted
-header-there s i j h = header-read s (lookup-held s i j h .accepted)
 
 -- ---- a chain of two answers: n, then k; r is n as the code has it
 

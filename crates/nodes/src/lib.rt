@@ -10,7 +10,7 @@ ghost use Rattle.sheet.specs.Calls.{lookedUp, span, Part, withNode};
 use checking::NODE_SIZE;
 use checking::check;
 use checking::columns;
-use checking::nodes_offset;
+use checking::node_offset;
 use checking::rows;
 use words::bits_of;
 use words::put_word;
@@ -85,7 +85,7 @@ fn offset(sheet: &[u8], column: u32, row: u32) -> usize
     requires { ⌜ lookupRefusal (now sheet) column row ≡ 0 ⌝ }
     ensures { λ r. ⌜ (r ≡ nodeOffset (now (sheet .entry)) column row) × (r + nodeSize ≤ length (now (sheet .entry))) ⌝ }
 {
-    nodes_offset(sheet) + NODE_SIZE * (row as usize * columns(sheet) + column as usize)
+    node_offset(sheet, column as usize, row as usize)
 }
 
 fn wrong_numbers(height: i32, x_slope: i32, y_slope: i32) -> bool

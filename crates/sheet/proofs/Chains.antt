@@ -1,15 +1,16 @@
 -- What the refusals compute to: a chain of tests, and each call's from the checks that it shares with others. Assumes nothing.
-use Prim.Native.Nat.{ℕ, suc, _<_}
-use mathlib.Core.Path.{_≡_, refl, sym, _∙_}
+use Prim.Native.Nat.{ℕ, suc, _≤_, _<_}
+use mathlib.Core.Path.{_≡_, refl, sym, _∙_, ap}
 use mathlib.Core.List.{List, [], _∷_, _++_}
-use mathlib.Core.Bool.{Bool, true, false, cond, _&&_}
+use mathlib.Core.Bool.{Bool, true, false, cond, _&&_, or-false}
 use native.Mathlib.Omega.{arith}
 use lib.Dec.{T, eqb, ltb, ltb→lt}
 use borrow.Author.Tests.{eqb-true, eqb-false, eq-eqb, ne-eqb, not-false}
 use Rattle.integers.proofs.Deduce.{both}
 use Rattle.sheet.specs.Format.{columns, rows, Node, nodeIn}
-use Rattle.sheet.specs.Refusals.{Input, Rule, rule, otherMark, otherVersion, otherCounts, otherLength, wrongLines, wrongNodes, noNode, wrongNumbers, table, first, member, part, sheetChecks, lookupChecks, zeroNode, atNode, checkRefusal, lookupRefusal, settingRefusal, Accepted}
+use Rattle.sheet.specs.Refusals.{Input, Rule, rule, otherMark, otherVersion, otherCounts, otherLength, wrongLines, wrongNodes, outside, offMesh, otherKind, noNode, wrongNumbers, table, first, member, part, sheetChecks, lookupChecks, zeroNode, atPixel, atNode, checkRefusal, lookupRefusal, settingRefusal, readingRefusal, Accepted}
 use Rattle.sheet.specs.RefusalLaws.{Each}
+use Rattle.sheet.specs.WellFormed.{Inside}
 use Rattle.sheet.proofs.Conditions.{condition-laws}
 
 pub check-is : (s : List ℕ)
@@ -73,7 +74,7 @@ or-zero n k e = by (eqb n 0) refl
     by true q = (eqb-true n 0 q, sym (zero-or n k (eqb-true n 0 q)) ∙ e)
     by false q = absurd (eqb-false n 0 q (sym (refused-or n k (eqb-false n 0 q)) ∙ e))
 
--- ---- looking up is refused as checking is, then by 10; setting as looking up, then by 11
+-- ---- looking up is refused as checking is, then by 10; setting as looking up, then by 11; a reading as checking is, then by 7 and 9
 
 pub lookup-is : (s : List ℕ) (i j : ℕ) → lookupRefusal s i j ≡ orElse (checkRefusal s) (cond (noNode s i j) 10 0)
 unfolding lookupRefusal checkRefusal table first member part
@@ -83,11 +84,26 @@ pub setting-is : (s : List ℕ) (i j : ℕ) (v : Node) → settingRefusal s i j 
 unfolding settingRefusal lookupRefusal table first member part
 setting-is s i j v = first-append (part lookupChecks table) (rule 11 (λ u. wrongNumbers (u .numbers)) ∷ []) (atNode s i j v) (numbered-part lookupChecks table numbered)
 
+-- a reading has no run, so 7 tests its pixel alone
+off-mesh-is : (s : List ℕ) (x y : ℕ) → offMesh s x y 0 ≡ outside s x y
+unfolding offMesh
+off-mesh-is s x y = or-false (outside s x y)
+
+pub reading-is : (s : List ℕ) (x y kind : ℕ) → readingRefusal s x y kind ≡ orElse (checkRefusal s) (cond (outside s x y) 7 (cond (otherKind kind) 9 0))
+unfolding readingRefusal checkRefusal table first member part
+reading-is s x y kind =
+    first-append (part sheetChecks table) (rule 7 (λ u. offMesh (u .sheet) (u .x) (u .y) (u .count)) ∷ rule 9 (λ u. otherKind (u .kind)) ∷ [])
+    (atPixel s x y 0 kind) (numbered-part sheetChecks table numbered)
+    ∙ ap (λ b. orElse (checkRefusal s) (cond b 7 (cond (otherKind kind) 9 0))) (off-mesh-is s x y)
+
 -- ---- what a call that is not refused says of its input, and the other way round
 
+cond-zero : (b : Bool) (n k : ℕ) → cond b (suc n) k ≡ 0 → (b ≡ false) × (k ≡ 0)
+cond-zero true n k e = absurd (omega arith)
+cond-zero false n k e = (refl, e)
+
 not-given : (b : Bool) (n : ℕ) → cond b (suc n) 0 ≡ 0 → b ≡ false
-not-given true n e = absurd (omega arith)
-not-given false n e = refl
+not-given b n e = cond-zero b n 0 e .0
 
 pub record HasNode (s : List ℕ) (i j : ℕ) : Type 0 where
   pub accepted : Accepted s
@@ -114,3 +130,26 @@ setting-held s i j v e =
 pub setting-taken : {s : List ℕ} {i j : ℕ} (v : Node) → HasNode s i j → nodeIn v ≡ true → settingRefusal s i j v ≡ 0
 unfolding wrongNumbers
 setting-taken {s} {i} {j} v h e = setting-is s i j v ∙ zero-or (lookupRefusal s i j) _ (lookup-taken h) ∙ rw e refl
+
+pub record HasPixel (s : List ℕ) (x y k : ℕ) : Type 0 where
+  pub accepted : Accepted s
+  pub inside : Inside s x y
+  pub kind : k ≤ 2
+
+pub reading-held : (s : List ℕ) (x y kind : ℕ) → readingRefusal s x y kind ≡ 0 → HasPixel s x y kind
+unfolding Accepted
+reading-held s x y kind e =
+    let h = or-zero _ _ (sym (reading-is s x y kind) ∙ e) in
+    let p = cond-zero (outside s x y) 6 (cond (otherKind kind) 9 0) (h .1) in
+    record {
+      accepted = h .0;
+      inside = condition-laws .seven s x y 0 .0 (off-mesh-is s x y ∙ p .0) .0;
+      kind = condition-laws .nine kind .0 (not-given (otherKind kind) 8 (p .1));
+    }
+
+pub reading-taken : {s : List ℕ} {x y kind : ℕ} → HasPixel s x y kind → readingRefusal s x y kind ≡ 0
+unfolding Accepted
+reading-taken {s} {x} {y} {kind} h =
+    let pixel = condition-laws .seven s x y 0 .1 (h .inside, λ k q. absurd (omega (arith, q))) in
+    reading-is s x y kind ∙ zero-or (checkRefusal s) _ (h .accepted)
+    ∙ rw (sym (off-mesh-is s x y) ∙ pixel, condition-laws .nine kind .1 (h .kind)) refl

@@ -6,6 +6,7 @@ use mathlib.Core.Bool.{false}
 use native.Mathlib.Nat.{mul-le-mul}
 use native.Mathlib.Omega.{arith}
 use lib.ListN.{length}
+use Rattle.sheet.specs.Format.{headerSize}
 use Rattle.sheet.specs.Refusals.{otherMark, otherVersion, otherCounts, otherLength, wrongLines, wrongNodes, table, member, part, sheetChecks, ofSheet, checkRefusal, Accepted}
 use Rattle.sheet.specs.WellFormed.{WellFormed, AcceptedLaws}
 use Rattle.sheet.proofs.FirstHolds.{none-given, none-of-table}
@@ -70,3 +71,7 @@ longest s a = let w = sound s a in omega (arith, w .whole, w .manyColumns, w .ma
 
 pub accepted-laws : AcceptedLaws
 accepted-laws = record { sound = sound; complete = complete; longest = longest }
+
+-- so its header can be read
+pub header-there : (s : List ℕ) → Accepted s → headerSize ≤ length s
+header-there s a = omega (arith, sound s a .whole)

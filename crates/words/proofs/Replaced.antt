@@ -1,5 +1,5 @@
 -- A list in which a stretch of bytes, b from index i on, has been replaced. Assumes nothing.
-use Prim.Native.Nat.{ℕ, _+_, _-_, _≤_, _<_}
+use Prim.Native.Nat.{ℕ, _+_, _*_, _-_, _≤_, _<_}
 use mathlib.Core.Path.{_≡_, refl, sym, _∙_, ap}
 use mathlib.Core.List.{List, _++_, append-assoc}
 use native.Mathlib.Nat.{add-assoc}
@@ -7,7 +7,7 @@ use native.Mathlib.Decide.{decLt}
 use native.Mathlib.Omega.{arith}
 use lib.ListN.{length, take, drop, length-append, length-take, length-drop, take-append-drop, List·getD-eq-default}
 use lib.Seq.{length-take-le, take-at, drop-at, getD-take, getD-drop, drop-drop, take-add}
-use Rattle.words.specs.Word.{byteAt, replaced, Bytes}
+use Rattle.words.specs.Word.{byteAt, wordAt, replaced, Bytes}
 use Rattle.words.proofs.Bytes.{bytes-append}
 
 -- ---- a stretch of a list: its length and its bytes
@@ -17,6 +17,12 @@ stretch-length s i n h = length-take-le n (drop i s) (omega (arith, length-drop 
 
 pub stretch-byte : (s : List ℕ) (i n k : ℕ) → k < n → byteAt (take n (drop i s)) k ≡ byteAt s (i + k)
 stretch-byte s i n k h = getD-take n (drop i s) k 0 h ∙ getD-drop i s k 0
+
+pub stretch-word : (s : List ℕ) (i n k : ℕ) → k + 1 < n → wordAt (take n (drop i s)) k ≡ wordAt s (i + k)
+stretch-word s i n k h =
+    let low = stretch-byte s i n k (omega (arith, h)) in
+    let high = stretch-byte s i n (k + 1) h ∙ ap (byteAt s) (sym (add-assoc i k 1)) in
+    λ t. low t + high t * 256
 
 pub stretch-bytes : (s : List ℕ) (i n : ℕ) → Bytes s → Bytes (take n (drop i s))
 unfolding Bytes

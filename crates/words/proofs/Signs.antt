@@ -2,12 +2,12 @@
 use Prim.Native.Nat.{ℕ, suc, _+_, _-_, _≤_, _<_}
 use mathlib.Core.Path.{_≡_, refl, ap}
 use native.Mathlib.Omega.{arith}
-use lib.IntN.{ℤ, pos, negsuc, natAbs, _+ℤ_}
+use lib.IntN.{ℤ, pos, negsuc, natAbs, _+ℤ_, _-ℤ_}
 use lib.Dec.{ltb, leb→le, ltb→lt}
 use lib.Signed.{_≤ℤ_, _<ℤ_}
 use borrow.Author.Tests.{lt-ltb, le-ltb}
 use Rattle.integers.specs.Within.{_within_}
-use Rattle.integers.proofs.Order.{subℕ-pos, pos-nonneg, cond-ind}
+use Rattle.integers.proofs.Order.{subℕ-pos, subℕ-neg, pos-nonneg, cond-ind}
 use Rattle.words.specs.Word.{signed, bitsOf}
 
 -- ---- what `bits_of` asks and gives: a negative number has 65,536 added
@@ -33,6 +33,16 @@ pub natural : (z : ℤ) → z within 32767 → pos 0 ≤ℤ z → Bits z (bitsOf
 unfolding bitsOf
 natural (pos n) w h = record { sign = h; value = refl; small = bits-small w }
 natural (negsuc n) w h = absurd (h .le)
+
+-- ---- what `signed_word` gives: bits from 32,768 on have 65,536 taken away
+
+pub signed-low : (w : ℕ) → w < 32768 → pos w ≡ signed w
+unfolding signed
+signed-low w h = rw (lt-ltb w 32768 h) refl
+
+pub signed-high : (w : ℕ) → 32768 ≤ w → w < 65536 → pos w -ℤ pos 65536 ≡ signed w
+unfolding signed
+signed-high w h k = rw (le-ltb w 32768 h) (subℕ-neg w 65536 (65535 - w) (omega arith))
 
 -- ---- they are inverse
 

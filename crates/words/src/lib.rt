@@ -5,7 +5,7 @@ ghost use mathlib.Core.Path.{_≡_};
 ghost use Prim.Native.Nat.{_+_, _<_};
 ghost use lib.ListN.{length};
 ghost use Rattle.integers.specs.Within.{_within_};
-ghost use Rattle.words.specs.Word.{wordAt, bitsOf, bytesOf, replaced};
+ghost use Rattle.words.specs.Word.{wordAt, signed, bitsOf, bytesOf, replaced};
 
 // The unsigned number in the two bytes at index `at`.
 pub fn word(s: &[u8], at: usize) -> u32
@@ -13,6 +13,19 @@ pub fn word(s: &[u8], at: usize) -> u32
     ensures { λ r. ⌜ (r ≡ wordAt (now (s .entry)) at) × (r < 65536) ⌝ }
 {
     wide(s[at]) + wide(s[at + 1]) * 256
+}
+
+// The signed number in the two bytes at index `at`.
+pub fn signed_word(s: &[u8], at: usize) -> i64
+    requires { ⌜ at + 1 < length (now s) ⌝ }
+    ensures { λ r. ⌜ r ≡ signed (wordAt (now (s .entry)) at) ⌝ }
+{
+    let bits = word(s, at);
+    if bits < 32768 {
+        bits as i64
+    } else {
+        bits as i64 - 65536
+    }
 }
 
 // Writes a number of 16 bits to the two bytes at index `at`.

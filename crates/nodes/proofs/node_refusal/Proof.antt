@@ -1,12 +1,15 @@
 -- `nodes::node_refusal` meets its contract. Assumes nothing.
 use mathlib.Core.Path.{sym, _∙_}
 use borrow.Author.Needs.{needs}
-use Rattle.nodes.proofs.Answers.{header-read, sheet-refused, node-answer}
+use Rattle.sheet.specs.Refusals.{Accepted}
+use Rattle.sheet.proofs.WellFormed.{header-there}
+use Rattle.nodes.proofs.Answers.{sheet-refused, node-answer}
 use Rattle.nodes.proofs.node_refusal.Statement.{statement}
 use Rattle.nodes.proofs.node_refusal.Tie as tie
 
 no-node-requires : tie.Need-no-node-requires
-no-node-requires c κs = header-read _ (sym (c .before .check .ensures) ∙ c .if1 .left)
+unfolding Accepted
+no-node-requires c κs = header-there _ (sym (c .before .check .ensures) ∙ c .if1 .left)
 
 returns-2 : tie.Need-returns-2
 returns-2 c = let d = c .before .before in node-answer _ _ _ (d .before .check .ensures) (d .if1 .left) (sym (c .before .no-node .ensures) ∙ c .if2 .taken)

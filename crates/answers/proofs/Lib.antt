@@ -1,0 +1,3 @@
+pub mod Floats
+pub mod Quotients
+pub mod Told

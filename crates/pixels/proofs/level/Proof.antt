@@ -1,0 +1,24 @@
+-- `pixels::level` meets its contract. Assumes nothing.
+use mathlib.Core.Path.{_≡_, _∙_, ap, subst⁻¹}
+use mathlib.Core.List.{[], _∷_}
+use borrow.Author.Needs.{needs}
+use mir.Syntax.{w64}
+use Rattle.integers.proofs.Operand.{unchanged}
+use Rattle.readings.specs.Reading.{level}
+use Rattle.turnings.specs.Doubled.{halves}
+use Rattle.evaluation.specs.Pixels.{cellOf, pointOf}
+use Rattle.answers.specs.Answers.{answered, Small}
+use Rattle.pixels.proofs.level.Statement.{statement}
+use Rattle.pixels.proofs.level.Tie as tie
+
+is : (c : tie.After-new) → let a = c .before .before .args in c .new .result .height ≡ level (cellOf (a .p)) (halves (a .k)) (pointOf (a .p))
+is c = c .new .ensures ∙ unchanged w64 (c .before .level .ok) ∙ c .before .level .ensures
+
+pub level-spec : {M : Type 1} → statement M
+level-spec =
+    tie.close
+    (tie.spec
+    (λ c κs. search needs)
+    (λ c κs. search needs)
+    (λ c κs. subst⁻¹ Small (is c) (c .before .before .pre .2))
+    (λ c. c .answer .ensures ∙ ap (λ z. answered 0 (z ∷ [])) (is (c .before))))

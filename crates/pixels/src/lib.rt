@@ -1,0 +1,94 @@
+// Reading at a pixel: the level, the tilt or the bend, or the number of a refusal.
+ghost use mathlib.Core.Path.{_≡_};
+ghost use mathlib.Core.List.{[], _∷_};
+ghost use Rattle.readings.specs.Reading.{level, tiltX, tiltY, bendXX, bendXY, bendYY};
+ghost use Rattle.turnings.specs.Doubled.{halves, Sized};
+ghost use Rattle.evaluation.specs.Pixels.{cellOf, pointOf, Inside};
+ghost use Rattle.sheet.specs.Refusals.{readingRefusal};
+ghost use Rattle.answers.specs.Answers.{outcome, answered, Small};
+ghost use Rattle.surface.specs.Read.{numbers, read};
+use answers::Answer;
+use answers::BendReading;
+use answers::LevelReading;
+use answers::TiltReading;
+use checking::check;
+use evaluation::Pixel;
+use places::find;
+use places::outside;
+
+// What the light board asks: kind 0 is the level, 1 the tilt, 2 the bend.
+pub fn read(sheet: &[u8], x: u32, y: u32, kind: u32) -> Answer
+    ensures { λ r. ⌜ outcome r ≡ read (now (sheet .entry)) x y kind ⌝ }
+{
+    let refusal = read_refusal(sheet, x, y, kind);
+    if refusal != 0 {
+        return Answer::Refused(refusal);
+    }
+    reading(sheet, x, y, kind)
+}
+
+// The number that refuses the reading, or 0.
+fn read_refusal(sheet: &[u8], x: u32, y: u32, kind: u32) -> u32
+    ensures { λ r. ⌜ r ≡ readingRefusal (now (sheet .entry)) x y kind ⌝ }
+{
+    let refusal = check(sheet);
+    if refusal != 0 {
+        return refusal;
+    }
+    if outside(sheet, x, y) {
+        return 7;
+    }
+    if 2 < kind {
+        return 9;
+    }
+    0
+}
+
+// A reading that is not refused: from the cubic on the pixel's cell and piece.
+fn reading(sheet: &[u8], x: u32, y: u32, kind: u32) -> Answer
+    requires { ⌜ readingRefusal (now sheet) x y kind ≡ 0 ⌝ }
+    ensures { λ r. ⌜ outcome r ≡ answered kind (numbers (now (sheet .entry)) x y kind) ⌝ }
+{
+    let place = find(sheet, x, y);
+    let p = place.pixel;
+    let piece = place.piece;
+    let n = cells::corner_numbers(sheet, place.column, place.row, p.width, p.height);
+    let k = pieces::coefficients(n, piece);
+    if kind == 0 {
+        return level(k, p);
+    }
+    if kind == 1 {
+        return tilt(k, p);
+    }
+    bend(k, p)
+}
+
+// Of the cubic with these doubled coefficients: the level, the tilt along x and y, the bend along x, mixed and along y.
+fn level(k: [i64; 10], p: Pixel) -> Answer
+    requires { ⌜ Sized k × Inside p × Small (level (cellOf p) (halves k) (pointOf p)) ⌝ }
+    ensures { λ r. ⌜ outcome r ≡ answered 0 (level (cellOf p) (halves k) (pointOf p) ∷ []) ⌝ }
+{
+    let reading = LevelReading::new(evaluation::level(k, p));
+    reading.answer()
+}
+
+fn tilt(k: [i64; 10], p: Pixel) -> Answer
+    requires { ⌜ Sized k × Inside p × Small (tiltX (cellOf p) (halves k) (pointOf p)) × Small (tiltY (cellOf p) (halves k) (pointOf p)) ⌝ }
+    ensures { λ r. ⌜ outcome r ≡ answered 1 (tiltX (cellOf p) (halves k) (pointOf p) ∷ tiltY (cellOf p) (halves k) (pointOf p) ∷ []) ⌝ }
+{
+    let reading = TiltReading::new(evaluation::tilt_x(k, p), evaluation::tilt_y(k, p));
+    reading.answer()
+}
+
+fn bend(k: [i64; 10], p: Pixel) -> Answer
+    requires { ⌜ Sized k × Inside p ⌝ }
+    requires { ⌜ Small (bendXX (cellOf p) (halves k) (pointOf p)) × Small (bendXY (cellOf p) (halves k) (pointOf p)) × Small (bendYY (cellOf p) (halves k) (pointOf p)) ⌝ }
+    ensures { λ r. ⌜ outcome r ≡ answered 2 (bendXX (cellOf p) (halves k) (pointOf p) ∷ bendXY (cellOf p) (halves k) (pointOf p) ∷ bendYY (cellOf p) (halves k) (pointOf p) ∷ []) ⌝ }
+{
+    let reading = BendReading::new(
+        evaluation::bend_xx(k, p),
+        evaluation::bend_xy(k, p),
+        evaluation::bend_yy(k, p),
+    );
+    reading.answer()
+}

@@ -1,0 +1,3 @@
+pub mod Axes
+pub mod Pieces
+pub mod Search

@@ -1,0 +1,127 @@
+// Where a pixel lies on an accepted sheet: outside the mesh, or in a cell, at offsets in it, in a piece of it.
+ghost use mathlib.Core.Path.{_≡_};
+ghost use Prim.Native.Nat.{_+_, _*_, _-_, _≤_};
+ghost use lib.ListN.{length};
+ghost use Rattle.sibson.specs.Piece.{pieceAt};
+ghost use Rattle.sheet.specs.Refusals.{outside, Accepted};
+ghost use Rattle.sheet.specs.WellFormed.{Inside};
+ghost use Rattle.evaluation.specs.Pixels as pixels;
+ghost use Rattle.surface.specs.Place.{cellAlong, place};
+ghost use Rattle.places.specs.Found.{lineFrom, Axis, Between, offAxis, onAxis, named, holding};
+use checking::HEADER_SIZE;
+use checking::columns;
+use checking::rows;
+use evaluation::Pixel;
+use pieces::Piece;
+use words::word;
+
+// The cell of a pixel by its column and row, the pixel in that cell, and the piece that it is read from.
+pub struct Place {
+    pub column: usize,
+    pub row: usize,
+    pub pixel: Pixel,
+    pub piece: Piece,
+}
+
+// The cell along one axis, the offset from its first line, and the cell's size.
+pub struct OnAxis {
+    pub cell: usize,
+    pub offset: usize,
+    pub size: usize,
+}
+
+// Whether the pixel lies outside the mesh.
+pub fn outside(sheet: &[u8], x: u32, y: u32) -> bool
+    requires { ⌜ Accepted (now sheet) ⌝ }
+    ensures { λ r. ⌜ r ≡ outside (now (sheet .entry)) x y ⌝ }
+{
+    let m = columns(sheet);
+    let n = rows(sheet);
+    let y_lines = HEADER_SIZE + 2 * m;
+    off_axis(sheet, HEADER_SIZE, m, x) | off_axis(sheet, y_lines, n, y)
+}
+
+// The place of a pixel of the mesh.
+pub fn find(sheet: &[u8], x: u32, y: u32) -> Place
+    requires { ⌜ Accepted (now sheet) × Inside (now sheet) x y ⌝ }
+    ensures { λ r. ⌜ r ≡ holding (now (sheet .entry)) (place (now (sheet .entry)) x y) ⌝ }
+{
+    let m = columns(sheet);
+    let n = rows(sheet);
+    let y_lines = HEADER_SIZE + 2 * m;
+    let h = on_axis(sheet, HEADER_SIZE, m, x);
+    let v = on_axis(sheet, y_lines, n, y);
+    let pixel = Pixel {
+        a: h.offset,
+        b: v.offset,
+        width: h.size,
+        height: v.size,
+    };
+    Place {
+        column: h.cell,
+        row: v.cell,
+        pixel: pixel,
+        piece: piece(pixel),
+    }
+}
+
+// Whether a position lies before an axis's first line or beyond its last.
+fn off_axis(sheet: &[u8], start: usize, lines: usize, position: u32) -> bool
+    requires { ⌜ (1 ≤ lines) × (lines ≤ 65) × (start + 2 * lines ≤ length (now sheet)) ⌝ }
+    ensures { λ r. ⌜ r ≡ offAxis (lineFrom (now (sheet .entry)) start) lines position ⌝ }
+{
+    (position < word(sheet, start)) | (word(sheet, start + 2 * lines - 2) < position)
+}
+
+// Where a position between the first and the last line of an axis lies.
+fn on_axis(sheet: &[u8], start: usize, lines: usize, position: u32) -> OnAxis
+    requires { ⌜ Axis (now sheet) start lines × Between (lineFrom (now sheet) start) lines position ⌝ }
+    ensures { λ r. ⌜ r ≡ onAxis (lineFrom (now (sheet .entry)) start) (lines - 2) position ⌝ }
+{
+    let cell = cell_along(sheet, start, lines, position);
+    let before = word(sheet, start + 2 * cell);
+    let after = word(sheet, start + 2 * cell + 2);
+    OnAxis {
+        cell: cell,
+        offset: (position - before) as usize,
+        size: (after - before) as usize,
+    }
+}
+
+// The last cell that starts at or before the position, by halving: `low` does, and `high` is the last line or lies beyond.
+fn cell_along(sheet: &[u8], start: usize, lines: usize, position: u32) -> usize
+    requires { ⌜ Axis (now sheet) start lines × Between (lineFrom (now sheet) start) lines position ⌝ }
+    ensures { λ r. ⌜ r ≡ cellAlong (lineFrom (now (sheet .entry)) start) (lines - 2) position ⌝ }
+{
+    let mut low: usize = 0;
+    let mut high = lines - 1;
+    while low + 1 < high {
+        let middle = (low + high) / 2;
+        if word(sheet, start + 2 * middle) <= position {
+            low = middle;
+        } else {
+            high = middle;
+        }
+    }
+    low
+}
+
+// The lowest piece that holds the pixel.
+fn piece(p: Pixel) -> Piece
+    requires { ⌜ pixels.Inside p ⌝ }
+    ensures { λ r. ⌜ r ≡ named (pieceAt (pixels.pointOf p)) ⌝ }
+{
+    let x = p.a * p.height;
+    let y = p.b * p.width;
+    let q = p.width * p.height;
+    if y <= x {
+        if x + y <= q {
+            return Piece::Top;
+        }
+        return Piece::Right;
+    }
+    if q <= x + y {
+        return Piece::Bottom;
+    }
+    Piece::Left
+}

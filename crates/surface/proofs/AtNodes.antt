@@ -1,0 +1,149 @@
+-- At a node's pixel the level is the node's height in grains, and the tilt its slopes. Assumes nothing.
+use Prim.Native.Nat.{ℕ, suc, _+_, _-_, _≤_, _<_}
+use mathlib.Core.Path.{_≡_, refl, _∙_, ap, ap₂}
+use mathlib.Core.Logic.{_⊎_, inl, inr}
+use mathlib.Core.List.{List, [], _∷_}
+use native.Mathlib.Omega.{arith}
+use native.Mathlib.Decide.{decLt}
+use lib.Dec.{T, lit≤}
+use lib.IntN.{_*ℤ_}
+use Rattle.sibson.specs.Piece.{triangle, Corner, leftTop, rightTop, leftBottom, rightBottom}
+use Rattle.sibson.specs.Element.{Nodes}
+use Rattle.sibson.proofs.Covers.{covering}
+use Rattle.readings.specs.Bounds.{IsAt}
+use Rattle.readings.proofs.AtCorners.{at-corners}
+use Rattle.sheet.specs.Format.{columns, rows, lineX, lineY, Node, grainsPerStep, heightAt, slopeXAt, slopeYAt}
+use Rattle.sheet.specs.Refusals.{settingRefusal, Accepted}
+use Rattle.sheet.specs.Calls.{withNode}
+use Rattle.sheet.specs.NodeLaws.{Leaves, ReadsBack}
+use Rattle.sheet.proofs.Chains.{HasNode, setting-held}
+use Rattle.sheet.proofs.Setting.{setting-laws}
+use Rattle.answers.specs.Answers.{answered}
+use Rattle.surface.specs.Place.{Place, cellAt, pointAt, columnAt, rowAt, place}
+use Rattle.surface.specs.Surface.{nodeNumbers, nodesOf, setOf, levelAt, tiltXAt, tiltYAt, level, tiltX, tiltY}
+use Rattle.surface.specs.Read.{numbers, read}
+use Rattle.surface.specs.Theorems.{AtNodes}
+use Rattle.surface.proofs.Cells.{x-rising, y-rising, width-back, height-back}
+use Rattle.surface.proofs.Places.{place-laws, has-cell, node-inside}
+use Rattle.surface.proofs.Sizes.{level-below}
+use Rattle.surface.proofs.HalfUnits.{read-is}
+
+-- ---- a node's pixel is a corner of its cell
+
+-- a pixels from the start of cell k, which is w pixels long, is line i: the cell's first line or its last
+abbrev Ends : ℕ → ℕ → ℕ → ℕ → Type 0
+Ends k w a i = ((k ≡ i) × (a ≡ 0)) ⊎ ((suc k ≡ i) × (a ≡ w))
+
+-- line i belongs to the cell that it starts, the last line to the last cell
+ends : (line : ℕ → ℕ) {n i k w : ℕ} → i < n → (suc i < n → k ≡ i) → (i ≡ n - 1 → suc (suc k) ≡ n) → line k + w ≡ line (suc k) → Ends k w (line i - line k) i
+ends line {n} {i} {k} {w} l inner last back =
+    elim (decLt (suc i) n) [
+      | yes m ↦ inl (inner m, rw (inner m) (omega arith))
+      | no m ↦ let end = last (omega arith) in let same : suc k ≡ i = omega arith in inr (same, rw (← same) (omega arith))
+    ]
+
+record AtCorner (s : List ℕ) (i j : ℕ) (p : Place) : Type 0 where
+  corner : Corner
+  there : IsAt corner (pointAt s p)
+  node : nodesOf s (p .column) (p .row) corner ≡ nodeNumbers s i j
+
+at-corner : (s : List ℕ) (i j : ℕ) (p : Place) → Ends (p .column) (cellAt s p .W .number) (p .a) i → Ends (p .row) (cellAt s p .H .number) (p .b) j → AtCorner s i j p
+unfolding nodesOf
+at-corner s i j p (inl (e, a)) (inl (f, b)) = record { corner = leftTop; there = rw (a, b) (at-corners .pixels (cellAt s p) .0); node = rw (e, f) refl }
+at-corner s i j p (inr (e, a)) (inl (f, b)) = record { corner = rightTop; there = rw (a, b) (at-corners .pixels (cellAt s p) .1); node = rw (e, f) refl }
+at-corner s i j p (inl (e, a)) (inr (f, b)) = record { corner = leftBottom; there = rw (a, b) (at-corners .pixels (cellAt s p) .2); node = rw (e, f) refl }
+at-corner s i j p (inr (e, a)) (inr (f, b)) = record { corner = rightBottom; there = rw (a, b) (at-corners .pixels (cellAt s p) .3); node = rw (e, f) refl }
+
+-- a place's point lies in its piece
+in-piece : (s : List ℕ) (x y : ℕ) → T (triangle (place s x y .piece) (pointAt s (place s x y)))
+unfolding place
+in-piece s x y = covering .covers (pointAt s (place s x y))
+
+-- ---- readings there
+
+module _ (s : List ℕ) (i j : ℕ) (accepted : Accepted s) (l : i < columns s) (k : j < rows s) where
+  abbrev x : ℕ
+  x = lineX s i
+
+  abbrev y : ℕ
+  y = lineY s j
+
+  abbrev p : Place
+  p = place s x y
+
+  abbrev m : Nodes
+  m = nodesOf s (p .column) (p .row)
+
+  node-place : AtCorner s i j p
+  unfolding place
+  node-place =
+      let column = columnAt s x in let row = rowAt s y in let cell = has-cell s accepted x y in
+      at-corner s i j p
+      (ends (lineX s) l (λ h. place-laws .inColumn s x i accepted h (omega arith) (x-rising s accepted .rises i h))
+      (λ e. rw e (place-laws .lastColumn s accepted)) (width-back s accepted column row cell))
+      (ends (lineY s) k (λ h. place-laws .inRow s y j accepted h (omega arith) (y-rising s accepted .rises j h))
+      (λ e. rw e (place-laws .lastRow s accepted)) (height-back s accepted column row cell))
+
+  node-level : level s x y ≡ heightAt s i j
+  unfolding nodeNumbers setOf level levelAt
+  node-level =
+      let c = node-place in
+      at-corners .nodeLevels (cellAt s p) m (p .piece) (c .corner) (pointAt s p) (in-piece s x y) (c .there) ∙ ap (λ n. n .height) (c .node)
+
+  node-tilt-x : tiltX s x y ≡ slopeXAt s i j
+  unfolding nodeNumbers setOf tiltX tiltXAt
+  node-tilt-x =
+      let c = node-place in
+      at-corners .nodeTiltsX (cellAt s p) m (p .piece) (c .corner) (pointAt s p) (in-piece s x y) (c .there) ∙ ap (λ n. n .xSlope) (c .node)
+
+  node-tilt-y : tiltY s x y ≡ slopeYAt s i j
+  unfolding nodeNumbers setOf tiltY tiltYAt
+  node-tilt-y =
+      let c = node-place in
+      at-corners .nodeTiltsY (cellAt s p) m (p .piece) (c .corner) (pointAt s p) (in-piece s x y) (c .there) ∙ ap (λ n. n .ySlope) (c .node)
+
+-- ---- a node that is set
+
+module _ (s : List ℕ) (i j : ℕ) (v : Node) (e : settingRefusal s i j v ≡ 0) where
+  abbrev t : List ℕ
+  t = withNode s i j v
+
+  leaves : Leaves s i j t
+  leaves = setting-laws .leaves s i j v
+
+  has : HasNode t i j
+  has =
+      let h = setting-held s i j v e .0 in
+      record { accepted = leaves .accepted (h .accepted); column = rw (leaves .columnsStay) (h .column); row = rw (leaves .rowsStay) (h .row) }
+
+  back : ReadsBack i j v t
+  back = setting-laws .readsBack s i j v e
+
+  set-read : (kind : ℕ) → kind ≤ 2 → read t (lineX s i) (lineY s j) kind ≡ answered kind (numbers t (lineX t i) (lineY t j) kind)
+  set-read kind le =
+      let h = setting-held s i j v e .0 in
+      rw (← leaves .linesX i (h .column), ← leaves .linesY j (h .row))
+      (read-is (record { accepted = has .accepted; inside = node-inside t (has .accepted) i j (has .column) (has .row); kind = le }))
+
+  set-level : read t (lineX s i) (lineY s j) 0 ≡ answered 0 ((grainsPerStep *ℤ v .storedHeight) ∷ [])
+  unfolding heightAt numbers
+  set-level =
+      set-read 0 (lit≤ tt)
+      ∙ ap (λ z. answered 0 (z ∷ [])) (node-level t i j (has .accepted) (has .column) (has .row) ∙ ap (λ n. grainsPerStep *ℤ n .storedHeight) (back .numbers))
+
+  set-tilt : read t (lineX s i) (lineY s j) 1 ≡ answered 1 (v .slopeX ∷ v .slopeY ∷ [])
+  unfolding slopeXAt slopeYAt numbers
+  set-tilt =
+      set-read 1 (lit≤ tt)
+      ∙ ap₂ (λ a b. answered 1 (a ∷ b ∷ [])) (node-tilt-x t i j (has .accepted) (has .column) (has .row) ∙ ap (λ n. n .slopeX) (back .numbers))
+      (node-tilt-y t i j (has .accepted) (has .column) (has .row) ∙ ap (λ n. n .slopeY) (back .numbers))
+
+pub at-nodes : AtNodes
+at-nodes = record {
+  levels = level-below;
+  nodeLevels = node-level;
+  nodeTiltsX = node-tilt-x;
+  nodeTiltsY = node-tilt-y;
+  setLevels = set-level;
+  setTilts = set-tilt;
+}

@@ -1,0 +1,10 @@
+pub mod Along
+pub mod Cells
+pub mod Places
+pub mod Sets
+pub mod EdgePoints
+pub mod Worked
+pub mod Touching
+pub mod Sizes
+pub mod HalfUnits
+pub mod AtNodes

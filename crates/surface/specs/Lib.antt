@@ -1,0 +1,6 @@
+pub mod Place
+pub mod Surface
+pub mod Read
+pub mod Theorems
+pub mod Touching
+pub mod Examples

@@ -1,0 +1,80 @@
+-- What holds of the surface and the readings of every accepted sheet: the sentences of demand 3 that speak of sheets, and what 01 says of levels. Assumes nothing.
+use Prim.Native.Nat.{ℕ, suc, _+_, _^_, _≤_, _<_}
+use mathlib.Core.Path.{_≡_}
+use mathlib.Core.List.{List, [], _∷_}
+use lib.Ieee.{Float}
+use lib.IntN.{ℤ, natAbs, _*ℤ_}
+use Rattle.sibson.specs.Fraction.{Positive, ℚ, whole, half, _-ℚ_, _÷_}
+use Rattle.sibson.specs.Cubic.{jet, _≋_}
+use Rattle.sibson.specs.Piece.{top, right, bottom, left, FourCubics, edge}
+use Rattle.sibson.specs.Conditions.{Meets, Equal}
+use Rattle.sibson.specs.Theorems.{Has, wholes}
+use Rattle.readings.specs.Reading.{_withinℚ_}
+use Rattle.sheet.specs.Format.{columns, rows, lineX, lineY, Node, grainsPerStep, heightAt, slopeXAt, slopeYAt}
+use Rattle.sheet.specs.Refusals.{settingRefusal, Accepted}
+use Rattle.sheet.specs.WellFormed.{Inside}
+use Rattle.sheet.specs.Calls.{withNode}
+use Rattle.answers.specs.Answers.{outcome, divisor, answered}
+use Rattle.answers.specs.AnswerLaws.{_is_}
+use Rattle.answers.specs.declared.Answer.{Answer}
+use Rattle.surface.specs.Place.{cellOf, HasCell}
+use Rattle.surface.specs.Surface.{nodesOf, setOf, level, tiltX, tiltY}
+use Rattle.surface.specs.Read.{exact, read}
+
+-- ---- the set we read from
+
+-- S meets the conditions and has the nodes' numbers (heights in grains, slopes) at the corners of the cell
+pub record Fits (s : List ℕ) (i j : ℕ) (S : FourCubics) : Type 0 where
+  pub meets : Meets (cellOf s i j) S
+  pub nodes : Has (cellOf s i j) S (λ c. wholes (nodesOf s i j c))
+
+-- on every accepted sheet, in each cell, the set we read from is the one that does
+pub record TheSet : Type 0 where
+  -- the cell is as wide and high as its lines are apart
+  pub widths : (s : List ℕ) → Accepted s → (i j : ℕ) → HasCell s i j → lineX s i + cellOf s i j .W .number ≡ lineX s (suc i)
+  pub heights : (s : List ℕ) → Accepted s → (i j : ℕ) → HasCell s i j → lineY s j + cellOf s i j .H .number ≡ lineY s (suc j)
+  pub fits : (s : List ℕ) → Accepted s → (i j : ℕ) → HasCell s i j → Fits s i j (setOf s i j)
+  pub only : (s : List ℕ) → Accepted s → (i j : ℕ) → HasCell s i j → (S : FourCubics) → Fits s i j S → Equal S (setOf s i j)
+
+-- two cells that share an edge agree at every point of it in height, x-slope and y-slope: t of the way from the top, or from the left
+pub record SharedEdges : Type 0 where
+  pub sideBySide : (s : List ℕ) → Accepted s → (i j : ℕ) → HasCell s i j → HasCell s (suc i) j → (t : ℚ) →
+      jet (cellOf s i j) (setOf s i j right) (edge right t) ≋ jet (cellOf s (suc i) j) (setOf s (suc i) j left) (edge left t)
+  pub oneAboveTheOther : (s : List ℕ) → Accepted s → (i j : ℕ) → HasCell s i j → HasCell s i (suc j) → (t : ℚ) →
+      jet (cellOf s i j) (setOf s i j bottom) (edge bottom t) ≋ jet (cellOf s i (suc j)) (setOf s i (suc j) top) (edge top t)
+
+-- ---- what a reading returns
+
+-- the float is exactly a whole number over d, and that number lies within half a unit of x
+pub record HalfUnitFrom (d : Positive) (v : Float) (x : ℚ) : Type 0 where
+  pub number : ℤ
+  pub float : v is whole number ÷ d
+  pub near : whole number -ℚ x withinℚ half
+
+-- P of the elements of two lists, which are equally many
+abbrev pub EachPair : {A B : Type 0} → (A → B → Type 0) → List A → List B → Type 0
+EachPair P [] [] = Unit {0}
+EachPair P [] (y ∷ ys) = ⊥
+EachPair P (x ∷ xs) [] = ⊥
+EachPair P (x ∷ xs) (y ∷ ys) = P x y × EachPair P xs ys
+
+-- at every pixel of the mesh of an accepted sheet a reading is not refused, and each value that it returns, times the kind's divisor, is a whole number within
+-- half a unit of the exact value of the cubic on the pixel's cell and piece
+pub record HalfUnits : Type 0 where
+  pub returned : (s : List ℕ) (x y kind : ℕ) → Accepted s → Inside s x y → kind ≤ 2 → (r : Answer) → outcome r ≡ read s x y kind →
+      (outcome r .number ≡ 0) × EachPair (HalfUnitFrom (divisor kind)) (outcome r .values) (exact s x y kind)
+
+-- ---- levels, and readings at nodes
+
+pub record AtNodes : Type 0 where
+  -- a level lies strictly between −2²⁰ and 2²⁰
+  pub levels : (s : List ℕ) (x y : ℕ) → Accepted s → Inside s x y → natAbs (level s x y) < 2 ^ 20
+  -- at a node's pixel the level is its height in grains, and the tilt its slopes
+  pub nodeLevels : (s : List ℕ) (i j : ℕ) → Accepted s → i < columns s → j < rows s → level s (lineX s i) (lineY s j) ≡ heightAt s i j
+  pub nodeTiltsX : (s : List ℕ) (i j : ℕ) → Accepted s → i < columns s → j < rows s → tiltX s (lineX s i) (lineY s j) ≡ slopeXAt s i j
+  pub nodeTiltsY : (s : List ℕ) (i j : ℕ) → Accepted s → i < columns s → j < rows s → tiltY s (lineX s i) (lineY s j) ≡ slopeYAt s i j
+  -- so a node that is set reads back as the new numbers: height in grains, slopes
+  pub setLevels : (s : List ℕ) (i j : ℕ) (v : Node) → settingRefusal s i j v ≡ 0 →
+      read (withNode s i j v) (lineX s i) (lineY s j) 0 ≡ answered 0 ((grainsPerStep *ℤ v .storedHeight) ∷ [])
+  pub setTilts : (s : List ℕ) (i j : ℕ) (v : Node) → settingRefusal s i j v ≡ 0 →
+      read (withNode s i j v) (lineX s i) (lineY s j) 1 ≡ answered 1 (v .slopeX ∷ v .slopeY ∷ [])
