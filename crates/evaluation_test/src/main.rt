@@ -5,7 +5,6 @@ ghost use Rattle.readings.specs.Bounds.{largest, AllWithin};
 ghost use Rattle.corners.specs.Held.{corners, Measured, Side};
 ghost use Rattle.evaluation.specs.Pixels.{Inside};
 use evaluation::Pixel;
-use pieces::Piece;
 use printing::field;
 use printing::last;
 
@@ -145,7 +144,7 @@ fn row(n: [[i64; 3]; 4], left: usize, y: usize, b: usize, width: usize, height: 
 fn line(n: [[i64; 3]; 4], x: usize, y: usize, p: Pixel)
     requires { ⌜ AllWithin largest (corners n) × (x ≤ 4160) × (y ≤ 4160) × Inside p ⌝ }
 {
-    let k = pieces::coefficients(n, piece(p));
+    let k = pieces::coefficients(n, places::piece(p));
     field(x as i64);
     field(y as i64);
     field(evaluation::level(k, p));
@@ -154,23 +153,4 @@ fn line(n: [[i64; 3]; 4], x: usize, y: usize, p: Pixel)
     field(evaluation::bend_xx(k, p));
     field(evaluation::bend_xy(k, p));
     last(evaluation::bend_yy(k, p));
-}
-
-// The lowest piece that holds the pixel.
-fn piece(p: Pixel) -> Piece
-    requires { ⌜ Inside p ⌝ }
-{
-    let x = p.a * p.height;
-    let y = p.b * p.width;
-    let q = p.width * p.height;
-    if y <= x {
-        if x + y <= q {
-            return Piece::Top;
-        }
-        return Piece::Right;
-    }
-    if q <= x + y {
-        return Piece::Bottom;
-    }
-    Piece::Left
 }

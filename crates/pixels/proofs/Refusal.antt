@@ -3,24 +3,27 @@ use Prim.Native.Nat.{ℕ}
 use mathlib.Core.Path.{_≡_, refl, sym, _∙_}
 use mathlib.Core.List.{List}
 use mathlib.Core.Bool.{Bool, cond}
+use lib.Dec.{ltb}
 use borrow.Author.Tests.{eq-eqb, ne-eqb}
 use Rattle.sheet.specs.Refusals.{outside, otherKind, checkRefusal, readingRefusal}
 use Rattle.sheet.proofs.Chains.{zero-or, refused-or, reading-is}
 use Rattle.answers.specs.Answers.{answered, refused}
 use Rattle.surface.specs.Read.{numbers, read}
 
-module _ (s : List ℕ) (x y kind : ℕ) {r : ℕ} where
-  pub sheet-refused : r ≡ checkRefusal s → (r ≡ 0 → ⊥) → r ≡ readingRefusal s x y kind
-  sheet-refused e h = e ∙ sym (reading-is s x y kind ∙ refused-or (checkRefusal s) _ (λ z. h (e ∙ z)))
-
+module _ (s : List ℕ) (x y kind : ℕ) where
   -- the sheet is accepted: the pixel's test, then the kind's
-  pub pixel-answer : r ≡ checkRefusal s → r ≡ 0 → {p k : Bool} → p ≡ outside s x y → k ≡ otherKind kind → cond p 7 (cond k 9 0) ≡ readingRefusal s x y kind
-  pixel-answer e z f g = rw (f, g) (sym (reading-is s x y kind ∙ zero-or (checkRefusal s) _ (sym e ∙ z)))
+  pub pixel-answer : checkRefusal s ≡ 0 → {p k : Bool} → p ≡ outside s x y → k ≡ ltb 2 kind → cond p 7 (cond k 9 0) ≡ readingRefusal s x y kind
+  unfolding otherKind
+  pixel-answer z f g = rw (f, g) (sym (reading-is s x y kind ∙ zero-or (checkRefusal s) _ z))
 
-  pub read-refused : r ≡ readingRefusal s x y kind → (r ≡ 0 → ⊥) → refused r ≡ read s x y kind
-  unfolding read
-  read-refused e h = rw (← e, ne-eqb r 0 h) refl
+  module _ {r : ℕ} where
+    pub sheet-refused : r ≡ checkRefusal s → (r ≡ 0 → ⊥) → r ≡ readingRefusal s x y kind
+    sheet-refused e h = e ∙ sym (reading-is s x y kind ∙ refused-or (checkRefusal s) _ (λ z. h (e ∙ z)))
 
-  pub read-taken : r ≡ readingRefusal s x y kind → r ≡ 0 → answered kind (numbers s x y kind) ≡ read s x y kind
-  unfolding read
-  read-taken e z = rw (← e, eq-eqb r 0 z) refl
+    pub read-refused : r ≡ readingRefusal s x y kind → (r ≡ 0 → ⊥) → refused r ≡ read s x y kind
+    unfolding read
+    read-refused e h = rw (← e, ne-eqb r 0 h) refl
+
+    pub read-taken : r ≡ readingRefusal s x y kind → r ≡ 0 → answered kind (numbers s x y kind) ≡ read s x y kind
+    unfolding read
+    read-taken e z = rw (← e, eq-eqb r 0 z) refl

@@ -65,6 +65,26 @@ pub fn find(sheet: &[u8], x: u32, y: u32) -> Place
     }
 }
 
+// The lowest piece that holds the pixel.
+pub fn piece(p: Pixel) -> Piece
+    requires { ⌜ pixels.Inside p ⌝ }
+    ensures { λ r. ⌜ r ≡ named (pieceAt (pixels.pointOf p)) ⌝ }
+{
+    let x = p.a * p.height;
+    let y = p.b * p.width;
+    let q = p.width * p.height;
+    if y <= x {
+        if x + y <= q {
+            return Piece::Top;
+        }
+        return Piece::Right;
+    }
+    if q <= x + y {
+        return Piece::Bottom;
+    }
+    Piece::Left
+}
+
 // Whether a position lies before an axis's first line or beyond its last.
 fn off_axis(sheet: &[u8], start: usize, lines: usize, position: u32) -> bool
     requires { ⌜ (1 ≤ lines) × (lines ≤ 65) × (start + 2 * lines ≤ length (now sheet)) ⌝ }
@@ -104,24 +124,4 @@ fn cell_along(sheet: &[u8], start: usize, lines: usize, position: u32) -> usize
         }
     }
     low
-}
-
-// The lowest piece that holds the pixel.
-fn piece(p: Pixel) -> Piece
-    requires { ⌜ pixels.Inside p ⌝ }
-    ensures { λ r. ⌜ r ≡ named (pieceAt (pixels.pointOf p)) ⌝ }
-{
-    let x = p.a * p.height;
-    let y = p.b * p.width;
-    let q = p.width * p.height;
-    if y <= x {
-        if x + y <= q {
-            return Piece::Top;
-        }
-        return Piece::Right;
-    }
-    if q <= x + y {
-        return Piece::Bottom;
-    }
-    Piece::Left
 }

@@ -14,11 +14,11 @@ use Rattle.pixels.proofs.level.Tie as tie
 is : (c : tie.After-new) → let a = c .before .before .args in c .new .result .height ≡ level (cellOf (a .p)) (halves (a .k)) (pointOf (a .p))
 is c = c .new .ensures ∙ unchanged w64 (c .before .level .ok) ∙ c .before .level .ensures
 
+answer-requires : tie.Need-answer-requires
+answer-requires c κs = subst⁻¹ Small (is c) (c .before .before .pre .2)
+
+returns : tie.Need-returns
+returns c = c .answer .ensures ∙ ap (λ z. answered 0 (z ∷ [])) (is (c .before))
+
 pub level-spec : {M : Type 1} → statement M
-level-spec =
-    tie.close
-    (tie.spec
-    (λ c κs. search needs)
-    (λ c κs. search needs)
-    (λ c κs. subst⁻¹ Small (is c) (c .before .before .pre .2))
-    (λ c. c .answer .ensures ∙ ap (λ z. answered 0 (z ∷ [])) (is (c .before))))
+level-spec = tie.close (tie.spec (λ c κs. search needs) (λ c κs. search needs) answer-requires returns)
