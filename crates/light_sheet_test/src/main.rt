@@ -1,11 +1,16 @@
-// The calls of a light sheet on the cases of standard input, one line each: the call as in tests/vectors/calls.txt, "->" and its number; for a lookup
-// also the bytes that it hands back, for a setting the bytes of the sheet that it changes. The input and the expected output are from
-// tools/light_sheet_test_expected.py.
+// The readings' divisors on a line, then the calls of a light sheet on the cases of standard input, one line each: the call as in
+// tests/vectors/calls.txt, "->" and its number; for a lookup also the bytes that it hands back, for a setting the bytes of the sheet that it changes,
+// for a reading the whole numbers before its division. The input and the expected output are from tools/light_sheet_test_expected.py.
 // A case is three numbers of 16 bits (the length of its name, that of its sheet, how many calls), the name, the sheet, and 24 bytes for each call: its
-// letter, three zeros, and five numbers of 32 bits (column, row, height, x-slope, y-slope). Numbers have their low byte first.
+// letter, three zeros, and five numbers of 32 bits (column, row, height, x-slope, y-slope; of a reading x, y, kind). Numbers have their low byte first.
+use answers::Answer;
+use answers::BendReading;
+use answers::LevelReading;
+use answers::TiltReading;
 use libc::STDIN_FILENO;
 use libc::STDOUT_FILENO;
 use printing::field;
+use printing::last;
 use words::wide;
 
 // A call's numbers.
@@ -18,6 +23,7 @@ struct Numbers {
 }
 
 fn main() {
+    divisors();
     let mut cases: usize = 0;
     while cases < 4096 {
         if !case() {
@@ -25,6 +31,14 @@ fn main() {
         }
         cases += 1;
     }
+}
+
+// Those of level, tilt and bend.
+fn divisors() {
+    io::write_all(STDOUT_FILENO, b"divisors ");
+    value(LevelReading::DIVISOR, 1.0);
+    value(TiltReading::DIVISOR, 1.0);
+    last_value(BendReading::DIVISOR, 1.0);
 }
 
 // One case, or false where the input has ended.
@@ -87,10 +101,11 @@ fn make_calls(name: &[u8], sheet: &[u8], copy: &mut [u8], calls: u32) {
 fn make_call(name: &[u8], sheet: &[u8], copy: &mut [u8]) {
     let mut c = [0u8; 24];
     io::read_full(STDIN_FILENO, &mut c);
+    let third = long(c[12], c[13], c[14], c[15]);
     let v = Numbers {
         column: long(c[4], c[5], c[6], c[7]),
         row: long(c[8], c[9], c[10], c[11]),
-        height: signed(long(c[12], c[13], c[14], c[15])),
+        height: signed(third),
         x_slope: signed(long(c[16], c[17], c[18], c[19])),
         y_slope: signed(long(c[20], c[21], c[22], c[23])),
     };
@@ -100,6 +115,10 @@ fn make_call(name: &[u8], sheet: &[u8], copy: &mut [u8]) {
     }
     if c[0] == b'n' {
         node(name, sheet, v);
+        return;
+    }
+    if c[0] == b'r' {
+        read(name, sheet, v.column, v.row, third);
         return;
     }
     set_node(name, sheet, copy, v);
@@ -132,6 +151,81 @@ fn set_node(name: &[u8], sheet: &[u8], copy: &mut [u8], v: Numbers) {
     answer(light_sheet::set_node(copy, v.column, v.row, v.height, v.x_slope, v.y_slope));
     changes(sheet, copy);
     io::write_all(STDOUT_FILENO, b"\n");
+}
+
+fn read(name: &[u8], sheet: &[u8], x: u32, y: u32, kind: u32) {
+    call(b"read ", name);
+    field(x as i64);
+    field(y as i64);
+    field(kind as i64);
+    match light_sheet::read(sheet, x, y, kind) {
+        Answer::Level(level) => level_line(level),
+        Answer::Tilt(tilt_x, tilt_y) => tilt_line(tilt_x, tilt_y),
+        Answer::Bend(xx, xy, yy) => bend_line(xx, xy, yy),
+        Answer::Refused(number) => refused_line(number),
+    }
+}
+
+fn level_line(level: f64) {
+    accepted();
+    last_value(level, LevelReading::DIVISOR);
+}
+
+fn tilt_line(x: f64, y: f64) {
+    accepted();
+    value(x, TiltReading::DIVISOR);
+    last_value(y, TiltReading::DIVISOR);
+}
+
+fn bend_line(xx: f64, xy: f64, yy: f64) {
+    accepted();
+    value(xx, BendReading::DIVISOR);
+    value(xy, BendReading::DIVISOR);
+    last_value(yy, BendReading::DIVISOR);
+}
+
+fn refused_line(number: u32) {
+    answer(number);
+    io::write_all(STDOUT_FILENO, b"\n");
+}
+
+fn accepted() {
+    answer(0);
+    io::write_all(STDOUT_FILENO, b" ");
+}
+
+// The whole number that was divided, or "inexact" where v is not its quotient.
+fn value(v: f64, divisor: f64) {
+    if exact(v, divisor) {
+        field(whole(v * divisor));
+    } else {
+        io::write_all(STDOUT_FILENO, b"inexact ");
+    }
+}
+
+// The one that ends its line.
+fn last_value(v: f64, divisor: f64) {
+    if exact(v, divisor) {
+        last(whole(v * divisor));
+    } else {
+        io::write_all(STDOUT_FILENO, b"inexact\n");
+    }
+}
+
+// Whether v is a whole number over the divisor, and no negative zero.
+fn exact(v: f64, divisor: f64) -> bool {
+    if v == 0.0 && 1.0 / v < 0.0 {
+        return false;
+    }
+    std::num::nearest_i64_to_f64(whole(v * divisor)) / divisor == v
+}
+
+// v without its fraction, or 0 where that does not fit.
+fn whole(v: f64) -> i64 {
+    if v >= -9223372036854775808.0 && v < 9223372036854775808.0 {
+        return std::num::truncating_f64_to_i64(v);
+    }
+    0
 }
 
 fn call(verb: &[u8], name: &[u8]) {
