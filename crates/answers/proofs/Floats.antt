@@ -28,7 +28,7 @@ back : (z : ℤ) → Small z → toZ w64 (ofZ w64 z) ≡ z
 unfolding Small
 back z h = toZ-ofZ w64 z (record { sfits = near z h })
   where
-    near : (z : ℤ) → natAbs z < 2 ^ 40 → mag z < 2 ^ 63
+    near : (z : ℤ) → natAbs z < 2 ^ 53 → mag z < 2 ^ 63
     near (pos n) h = omega arith
     near (negsuc n) h = omega arith
 
@@ -37,7 +37,7 @@ pub in-float : (z : ℤ) → Small z → T (inFloat binary64 (toZ w64 (ofZ w64 z
 unfolding inFloat Small
 in-float z h = rw (back z h) (near z h)
   where
-    near : (z : ℤ) → natAbs z < 2 ^ 40 → T (inFloat binary64 z)
+    near : (z : ℤ) → natAbs z < 2 ^ 53 → T (inFloat binary64 z)
     near (pos n) h = le→leb n (2 ^ 53) (omega arith)
     near (negsuc n) h = lt→ltb n (2 ^ 53) (omega arith)
 

@@ -36,6 +36,6 @@ answered kind zs = record { number = 0; values = map (quotient (divisor kind)) z
 unfoldable pub refused : ℕ → Outcome
 refused n = record { number = n; values = [] }
 
--- far from the ends of what a 64-bit float holds exactly, 2⁵³ either way
+-- a 64-bit float holds it exactly, as all whole numbers below 2⁵³ either way
 unfoldable pub Small : ℤ → Type 0
-Small z = natAbs z < 2 ^ 40
+Small z = natAbs z < 2 ^ 53

@@ -5,7 +5,7 @@ ghost use mathlib.Core.Path.{_≡_};
 ghost use mathlib.Core.List.{[], _∷_};
 ghost use Rattle.answers.specs.Answers.{outcome, answered, Small};
 
-// One of three readings, in steps, or the number of a refusal.
+// One of three readings, in steps, in steps per pixel and in steps per pixel per pixel, or the number of a refusal.
 pub enum Answer {
     Level(f64),
     Tilt(f64, f64),

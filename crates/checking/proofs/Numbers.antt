@@ -9,7 +9,7 @@ use lib.Dec.{leb, ltb, ltb→lt, nltb→le, lit<}
 use lib.IntN.{pos, negsuc, natAbs}
 use borrow.Author.Tests.{leb-true, le-leb, lt-leb}
 use Rattle.integers.proofs.Order.{cond-ind}
-use Rattle.words.specs.Word.{byteAt, wordAt, signed}
+use Rattle.words.specs.Word.{wordAt, signed}
 use Rattle.words.proofs.Replaced.{stretch-word}
 use Rattle.sheet.specs.Format.{columns, rows, decoded, heightIn, slopeIn, nodeIn, nodesOffset, nodeSize, nodeOffset, nodeBytes, nodeAt}
 use Rattle.sheet.specs.Refusals.{some, wrongNodes}

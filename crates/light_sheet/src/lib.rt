@@ -44,7 +44,8 @@ pub fn set_node(
     nodes::set_node(sheet, column, row, height, x_slope, y_slope)
 }
 
-// Reads at the pixel (x, y): kind 0 is the level, 1 the tilt (x, y), 2 the bend (xx, xy, yy), each in steps; or `Refused` with the number (1 to 6, 7, 9).
+// Reads at the pixel (x, y): kind 0 is the level in steps, 1 the tilt (x, y) in steps per pixel, 2 the bend (xx, xy, yy) in steps per pixel per pixel; or
+// `Refused` with the number (1 to 6, 7, 9).
 pub fn read(sheet: &[u8], x: u32, y: u32, kind: u32) -> Answer
     ensures { λ r. ⌜ outcome r ≡ read (now (sheet .entry)) x y kind ⌝ }
 {

@@ -18,6 +18,13 @@ pieceOf held.the-variants.Right = right
 pieceOf held.the-variants.Bottom = bottom
 pieceOf held.the-variants.Left = left
 
+-- and back
+unfoldable pub named : Piece → held.Piece
+named top = held.the-variants.Top
+named right = held.the-variants.Right
+named bottom = held.the-variants.Bottom
+named left = held.the-variants.Left
+
 -- ---- piece 0, row by row
 
 -- a row of ten times a number, added to sums

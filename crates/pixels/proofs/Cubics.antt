@@ -1,10 +1,9 @@
 -- What the code evaluates at a pixel: the coefficients are those of the cubic on the pixel's cell and piece, and the pixel is that cell's. Assumes nothing.
 use Prim.Native.Nat.{ℕ}
-use mathlib.Core.Path.{_≡_, refl, _∙_, ap, subst, subst⁻¹}
+use mathlib.Core.Path.{_≡_, _∙_, ap, subst, subst⁻¹}
 use mathlib.Core.List.{List}
 use lib.IntN.{ℤ}
 use Rattle.sibson.specs.Cubic.{Cell, Cubic, Point}
-use Rattle.sibson.specs.Piece.{Piece, top, right, bottom, left}
 use Rattle.sibson.specs.Element.{CornerNumbers, cornerNumbers, sibson, element}
 use Rattle.readings.specs.Bounds.{largest, AllWithin, listed}
 use Rattle.corners.specs.Held.{corners, arrays, cell}
@@ -13,6 +12,7 @@ use Rattle.turnings.specs.Doubled.{halves, Sized}
 use Rattle.turnings.proofs.Joined.{joined}
 use Rattle.turnings.proofs.Sizes.{piece-sized}
 use Rattle.pieces.specs.Parts.{pieceOf}
+use Rattle.pieces.proofs.Names.{piece-back}
 use Rattle.evaluation.specs.Pixels.{cellOf, pointOf, Inside}
 use Rattle.evaluation.specs.declared.Pixel.{Pixel}
 use Rattle.sheet.specs.Refusals.{Accepted}
@@ -22,16 +22,9 @@ use Rattle.surface.specs.Place.{HasCell, cellAt, pointAt, place}
 use Rattle.surface.specs.Surface.{nodesOf, setOf, cubicAt}
 use Rattle.surface.proofs.Cells.{numbers-within}
 use Rattle.surface.proofs.Places.{has-cell}
-use Rattle.places.specs.Found.{named, holding}
+use Rattle.places.specs.Found.{holding}
 use Rattle.places.specs.declared.Place.{Place}
 use Rattle.places.proofs.Axes.{place-is, pixel-inside}
-
-piece-back : (k : Piece) → pieceOf (named k) ≡ k
-unfolding pieceOf named
-piece-back top = refl
-piece-back right = refl
-piece-back bottom = refl
-piece-back left = refl
 
 -- doubled coefficients k and a pixel p of a cell are those to evaluate at pixel (x, y)
 pub record Evaluated (s : List ℕ) (x y : ℕ) (k : List ℤ) (p : Pixel) : Type 0 where

@@ -1,14 +1,14 @@
 -- What refuses a reading, and what it answers, from the answers that the code has. Assumes nothing.
 use Prim.Native.Nat.{ℕ}
-use mathlib.Core.Path.{_≡_, refl, sym, _∙_}
+use mathlib.Core.Path.{_≡_, sym, _∙_, ap}
 use mathlib.Core.List.{List}
 use mathlib.Core.Bool.{Bool, cond}
 use lib.Dec.{ltb}
-use borrow.Author.Tests.{eq-eqb, ne-eqb}
 use Rattle.sheet.specs.Refusals.{outside, otherKind, checkRefusal, readingRefusal}
 use Rattle.sheet.proofs.Chains.{zero-or, refused-or, reading-is}
 use Rattle.answers.specs.Answers.{answered, refused}
 use Rattle.surface.specs.Read.{numbers, read}
+use Rattle.surface.proofs.Answered.{taken-is, refused-is}
 
 module _ (s : List ℕ) (x y kind : ℕ) where
   -- the sheet is accepted: the pixel's test, then the kind's
@@ -21,9 +21,7 @@ module _ (s : List ℕ) (x y kind : ℕ) where
     sheet-refused e h = e ∙ sym (reading-is s x y kind ∙ refused-or (checkRefusal s) _ (λ z. h (e ∙ z)))
 
     pub read-refused : r ≡ readingRefusal s x y kind → (r ≡ 0 → ⊥) → refused r ≡ read s x y kind
-    unfolding read
-    read-refused e h = rw (← e, ne-eqb r 0 h) refl
+    read-refused e h = ap refused e ∙ sym (refused-is s x y kind (λ z. h (e ∙ z)))
 
     pub read-taken : r ≡ readingRefusal s x y kind → r ≡ 0 → answered kind (numbers s x y kind) ≡ read s x y kind
-    unfolding read
-    read-taken e z = rw (← e, eq-eqb r 0 z) refl
+    read-taken e z = sym (taken-is s x y kind (sym e ∙ z))

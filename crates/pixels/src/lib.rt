@@ -81,8 +81,7 @@ fn tilt(k: [i64; 10], p: Pixel) -> Answer
 }
 
 fn bend(k: [i64; 10], p: Pixel) -> Answer
-    requires { ⌜ Sized k × Inside p ⌝ }
-    requires { ⌜ Small (bendXX (cellOf p) (halves k) (pointOf p)) × Small (bendXY (cellOf p) (halves k) (pointOf p)) × Small (bendYY (cellOf p) (halves k) (pointOf p)) ⌝ }
+    requires { ⌜ Sized k × Inside p × Small (bendXX (cellOf p) (halves k) (pointOf p)) × Small (bendXY (cellOf p) (halves k) (pointOf p)) × Small (bendYY (cellOf p) (halves k) (pointOf p)) ⌝ }
     ensures { λ r. ⌜ outcome r ≡ answered 2 (bendXX (cellOf p) (halves k) (pointOf p) ∷ bendXY (cellOf p) (halves k) (pointOf p) ∷ bendYY (cellOf p) (halves k) (pointOf p) ∷ []) ⌝ }
 {
     let reading = BendReading::new(

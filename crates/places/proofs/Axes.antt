@@ -15,7 +15,8 @@ use Rattle.evaluation.specs.Pixels.{pointOf}
 use Rattle.evaluation.specs.declared.Pixel.{Pixel}
 use Rattle.surface.specs.Place.{cellOf, columnAt, rowAt, place}
 use Rattle.places.specs.declared.OnAxis.{OnAxis}
-use Rattle.places.specs.Found.{lineFrom, Axis, Between, offAxis, onAxis, named, holding}
+use Rattle.places.specs.Found.{lineFrom, Axis, Between, offAxis, onAxis, holding}
+use Rattle.pieces.specs.Parts.{named}
 use Rattle.places.proofs.Search.{size-side, offset-below}
 
 -- a pixel lies outside the mesh where it is off one of the axes

@@ -35,7 +35,7 @@ module _ (s : List ℕ) (start lines position : ℕ) where
     pub cell-starts : lineFrom s start cellOn ≤ position
     cell-starts = along-starts (lineFrom s start) position (lines - 2) (between .first)
 
-    pub cell-ends : position ≤ lineFrom s start (suc cellOn)
+    cell-ends : position ≤ lineFrom s start (suc cellOn)
     cell-ends = axis-ends (lineFrom s start) (axis .few) position (between .last)
 
     -- the cell's size, and the offset in it

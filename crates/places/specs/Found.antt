@@ -7,8 +7,7 @@ use lib.ListN.{length}
 use Rattle.words.specs.Word.{wordAt}
 use Rattle.sheet.specs.Format.{lineX, lineY}
 use Rattle.sheet.specs.WellFormed.{Rising}
-use Rattle.sibson.specs.Piece.{Piece, top, right, bottom, left}
-use Rattle.pieces.specs.declared.Piece as held
+use Rattle.pieces.specs.Parts.{named}
 use Rattle.surface.specs.Place as surface
 use Rattle.surface.specs.Place.{cellAlong}
 use Rattle.places.specs.declared.Place.{Place}
@@ -37,13 +36,6 @@ offAxis line lines position = ltb position (line 0) || ltb (line (lines - 1)) po
 -- along an axis: the cell, the offset from its first line, and its size, the distance of its lines
 unfoldable pub onAxis : (ℕ → ℕ) → ℕ → ℕ → OnAxis
 onAxis line k position = let i = cellAlong line k position in record { cell = i; offset = position - line i; size = line (suc i) - line i }
-
--- pieces 0 to 3, as the code names them
-unfoldable pub named : Piece → held.Piece
-named top = held.the-variants.Top
-named right = held.the-variants.Right
-named bottom = held.the-variants.Bottom
-named left = held.the-variants.Left
 
 -- a place, with the width and height of its cell
 unfoldable pub holding : List ℕ → surface.Place → Place

@@ -5,9 +5,10 @@ ghost use lib.ListN.{length};
 ghost use Rattle.sibson.specs.Piece.{pieceAt};
 ghost use Rattle.sheet.specs.Refusals.{outside, Accepted};
 ghost use Rattle.sheet.specs.WellFormed.{Inside};
+ghost use Rattle.pieces.specs.Parts.{named};
 ghost use Rattle.evaluation.specs.Pixels as pixels;
 ghost use Rattle.surface.specs.Place.{cellAlong, place};
-ghost use Rattle.places.specs.Found.{lineFrom, Axis, Between, offAxis, onAxis, named, holding};
+ghost use Rattle.places.specs.Found.{lineFrom, Axis, Between, offAxis, onAxis, holding};
 use checking::HEADER_SIZE;
 use checking::columns;
 use checking::rows;
@@ -24,10 +25,10 @@ pub struct Place {
 }
 
 // The cell along one axis, the offset from its first line, and the cell's size.
-pub struct OnAxis {
-    pub cell: usize,
-    pub offset: usize,
-    pub size: usize,
+struct OnAxis {
+    cell: usize,
+    offset: usize,
+    size: usize,
 }
 
 // Whether the pixel lies outside the mesh.
@@ -108,7 +109,7 @@ fn on_axis(sheet: &[u8], start: usize, lines: usize, position: u32) -> OnAxis
     }
 }
 
-// The last cell that starts at or before the position, by halving: `low` does, and `high` is the last line or lies beyond.
+// The last cell that starts at or before the position, by halving: `low` does, and `high` is the last line or lies beyond the position.
 fn cell_along(sheet: &[u8], start: usize, lines: usize, position: u32) -> usize
     requires { ⌜ Axis (now sheet) start lines × Between (lineFrom (now sheet) start) lines position ⌝ }
     ensures { λ r. ⌜ r ≡ cellAlong (lineFrom (now (sheet .entry)) start) (lines - 2) position ⌝ }

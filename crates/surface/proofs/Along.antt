@@ -21,7 +21,7 @@ module _ (line : ℕ → ℕ) (position : ℕ) where
       by true e = here (leb-true _ _ e)
       by false e = before (leb-false _ _ e)
 
-  pub along-least : (k : ℕ) → cellAlong line k position ≤ k
+  along-least : (k : ℕ) → cellAlong line k position ≤ k
   unfolding cellAlong
   along-least zero = omega arith
   along-least (suc k) = along-step k (λ c. c ≤ suc k) (λ h. omega arith) (λ h. let least = along-least k in omega arith)
@@ -42,7 +42,7 @@ module _ (line : ℕ → ℕ) (position : ℕ) where
   ])
 
   -- it ends at or after the position
-  pub along-ends : (k : ℕ) → position ≤ line (suc k) → position ≤ line (suc (cellAlong line k position))
+  along-ends : (k : ℕ) → position ≤ line (suc k) → position ≤ line (suc (cellAlong line k position))
   along-ends k h = let c = cellAlong line k position in let least = along-least k in
       elim (decLt position (line (suc c))) [
         | yes m ↦ omega arith
@@ -53,7 +53,7 @@ module _ (line : ℕ → ℕ) (position : ℕ) where
       ]
 
   -- the last cell holds what lies after its start
-  pub along-end : (k : ℕ) → line k ≤ position → cellAlong line k position ≡ k
+  along-end : (k : ℕ) → line k ≤ position → cellAlong line k position ≡ k
   along-end k h = le-antisymm (along-least k) (along-last k k (omega arith) h)
 
 module _ {line : ℕ → ℕ} {n : ℕ} (r : Rising line n) where

@@ -25,8 +25,7 @@ use Rattle.surface.specs.Read.{numbers, read}
 use Rattle.surface.specs.Theorems.{AtNodes}
 use Rattle.surface.proofs.Cells.{x-rising, y-rising, width-back, height-back}
 use Rattle.surface.proofs.Places.{place-laws, has-cell, node-inside}
-use Rattle.surface.proofs.Sizes.{level-below}
-use Rattle.surface.proofs.HalfUnits.{read-is}
+use Rattle.surface.proofs.Answered.{read-is}
 
 -- ---- a node's pixel is a corner of its cell
 
@@ -140,7 +139,6 @@ module _ (s : List ℕ) (i j : ℕ) (v : Node) (e : settingRefusal s i j v ≡ 0
 
 pub at-nodes : AtNodes
 at-nodes = record {
-  levels = level-below;
   nodeLevels = node-level;
   nodeTiltsX = node-tilt-x;
   nodeTiltsY = node-tilt-y;

@@ -25,7 +25,7 @@ use Rattle.surface.specs.Surface.{nodeNumbers, nodesOf}
 pub gap-side : {line : ℕ → ℕ} {n : ℕ} → Rising line n → (k : ℕ) → suc k < n → Side (line (suc k) - line k)
 gap-side {line} r k l = let up = r .rises k l in let near = r .narrow k l in record { least = omega arith; most = omega arith }
 
-pub gap-back : {line : ℕ → ℕ} {n : ℕ} → Rising line n → (k : ℕ) → suc k < n → line k + side (line (suc k) - line k) .number ≡ line (suc k)
+gap-back : {line : ℕ → ℕ} {n : ℕ} → Rising line n → (k : ℕ) → suc k < n → line k + side (line (suc k) - line k) .number ≡ line (suc k)
 gap-back {line} r k l =
     let up = r .rises k l in let whole : line k + (line (suc k) - line k) ≡ line (suc k) = omega arith in
     ap (λ (g : ℕ). line k + g) (side-is (gap-side r k l)) ∙ whole
@@ -52,10 +52,10 @@ module _ (s : List ℕ) (accepted : Accepted s) where
   number-in i j l k = let v = sound .ranges i j l k in (within-* {A = 64} (is-within (pos 64) (lit≤ tt)) (v .storedHeight), v .slopeX, v .slopeY)
 
   module _ (i j : ℕ) (has : HasCell s i j) where
-    pub width-side : Side (lineX s (suc i) - lineX s i)
+    width-side : Side (lineX s (suc i) - lineX s i)
     width-side = gap-side x-rising i (has .column)
 
-    pub height-side : Side (lineY s (suc j) - lineY s j)
+    height-side : Side (lineY s (suc j) - lineY s j)
     height-side = gap-side y-rising j (has .row)
 
     pub width-back : lineX s i + cellOf s i j .W .number ≡ lineX s (suc i)

@@ -1,26 +1,20 @@
 -- A reading at a pixel of the mesh returns, over its divisor, whole numbers within half a unit of the exact values. Assumes nothing.
 use Prim.Native.Nat.{ℕ, zero, suc}
-use mathlib.Core.Path.{_≡_, refl, _∙_}
+use mathlib.Core.Path.{refl, _∙_}
 use mathlib.Core.List.{List, map}
-use borrow.Author.Tests.{eq-eqb}
 use Rattle.sibson.specs.Fraction.{ℚ}
 use Rattle.readings.specs.Reading as reading
 use Rattle.readings.specs.Reading.{rounded}
 use Rattle.readings.proofs.Rounded.{half-unit}
 use Rattle.sheet.specs.Refusals.{Accepted}
 use Rattle.sheet.specs.WellFormed.{Inside}
-use Rattle.sheet.proofs.Chains.{HasPixel, reading-taken}
 use Rattle.answers.specs.Answers.{divisor, quotient, answered, Small}
 use Rattle.answers.proofs.Quotients.{quotient-laws}
 use Rattle.surface.specs.Surface.{jetAt, bendAt, levelAt, tiltXAt, tiltYAt, bendXXAt, bendXYAt, bendYYAt, level, tiltX, tiltY, bendXX, bendXY, bendYY}
-use Rattle.surface.specs.Read.{numbers, exact, read}
+use Rattle.surface.specs.Read.{numbers, exact}
 use Rattle.surface.specs.Theorems.{HalfUnitFrom, EachPair, HalfUnits}
-use Rattle.surface.proofs.Sizes.{small-level, small-tilts, small-bends}
-
--- it is not refused
-pub read-is : {s : List ℕ} {x y kind : ℕ} → HasPixel s x y kind → read s x y kind ≡ answered kind (numbers s x y kind)
-unfolding read
-read-is h = rw (eq-eqb _ 0 (reading-taken h)) refl
+use Rattle.surface.proofs.Answered.{read-is}
+use Rattle.surface.proofs.Sizes.{level-below, small-level, small-tilts, small-bends}
 
 from-rounded : (kind : ℕ) (x : ℚ) → Small (rounded x) → HalfUnitFrom (divisor kind) (quotient (divisor kind) (rounded x)) x
 from-rounded kind x h = record { number = rounded x; float = quotient-laws .exact kind (rounded x) h; near = half-unit .distances x }
@@ -37,4 +31,5 @@ unfolding answered
 half-units = record {
   returned = λ s x y kind a i l r e.
       rw (e ∙ read-is (record { accepted = a; inside = i; kind = l })) (refl, each s x y a i kind);
+  levels = level-below;
 }

@@ -5,6 +5,7 @@ pub mod Sets
 pub mod EdgePoints
 pub mod Worked
 pub mod Touching
+pub mod Answered
 pub mod Sizes
 pub mod HalfUnits
 pub mod AtNodes

@@ -48,7 +48,7 @@ module _ (s : List ℕ) (p : Place) (x y : ℕ) where
   pub touched : T (touches s p x y) → Touches s p x y
   touched t = says .0 (holds (touches s p x y) .1 t)
 
-  pub touch : Touches s p x y → T (touches s p x y)
+  touch : Touches s p x y → T (touches s p x y)
   touch f = holds (touches s p x y) .0 (says .1 f)
 
 -- ---- a place is what its cell and piece tell
@@ -80,19 +80,19 @@ module _ (s : List ℕ) (accepted : Accepted s) where
   has-cell x y = record { column = axis-cell (lineX s) (sound s accepted .fewColumns) x; row = axis-cell (lineY s) (sound s accepted .fewRows) y }
 
   module _ (x y : ℕ) (i : Inside s x y) where
-    pub column-starts : lineX s (columnAt s x) ≤ x
+    column-starts : lineX s (columnAt s x) ≤ x
     unfolding columnAt
     column-starts = along-starts (lineX s) x (columns s - 2) (i .left)
 
-    pub row-starts : lineY s (rowAt s y) ≤ y
+    row-starts : lineY s (rowAt s y) ≤ y
     unfolding rowAt
     row-starts = along-starts (lineY s) y (rows s - 2) (i .top)
 
-    pub column-ends : x ≤ lineX s (suc (columnAt s x))
+    column-ends : x ≤ lineX s (suc (columnAt s x))
     unfolding columnAt
     column-ends = axis-ends (lineX s) (sound s accepted .fewColumns) x (i .right)
 
-    pub row-ends : y ≤ lineY s (suc (rowAt s y))
+    row-ends : y ≤ lineY s (suc (rowAt s y))
     unfolding rowAt
     row-ends = axis-ends (lineY s) (sound s accepted .fewRows) y (i .bottom)
 
@@ -156,8 +156,24 @@ module _ (s : List ℕ) (accepted : Accepted s) where
   unfolding rowAt
   last-row = axis-end (sound s accepted .risingY) (sound s accepted .fewRows)
 
+means : (s : List ℕ) (p : Place) (x y : ℕ) → T (touches s p x y) ↔ (HasCell s (p .column) (p .row) × (lineX s (p .column) + p .a ≡ x) × (x ≤ lineX s (suc (p .column)))
+    × (lineY s (p .row) + p .b ≡ y) × (y ≤ lineY s (suc (p .row))) × T (triangle (p .piece) (pointAt s p)))
+means s p x y = (
+  λ t. let f = touched s p x y t in (record { column = f .column; row = f .row }, f .across, f .toRight, f .down, f .toBottom, f .piece),
+  λ (has, across, toRight, down, toBottom, piece). touch s p x y (record {
+    column = has .column;
+    across = across;
+    toRight = toRight;
+    row = has .row;
+    down = down;
+    toBottom = toBottom;
+    piece = piece;
+  }),
+)
+
 pub place-laws : PlaceLaws
 place-laws = record {
+  means = means;
   there = λ s x y a i. touch s (place s x y) x y (there s a x y i);
   inside = λ s p x y a t. inside s a (touched s p x y t);
   inColumn = λ s x i a. in-column s a x i;

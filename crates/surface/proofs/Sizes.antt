@@ -16,7 +16,7 @@ use Rattle.surface.specs.Surface.{nodesOf, setOf, levelAt, tiltXAt, tilt
 use Rattle.surface.proofs.Cells.{numbers-within}
 use Rattle.surface.proofs.Places.{has-cell, offset-across, offset-down}
 
-small : (z : ℤ) {n : ℕ} → natAbs z < n → n ≤ 2 ^ 40 → Small z
+small : (z : ℤ) {n : ℕ} → natAbs z < n → n ≤ 2 ^ 53 → Small z
 unfolding Small
 small z h l = lt-of-lt-of-le h l
 

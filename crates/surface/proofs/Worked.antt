@@ -24,7 +24,22 @@ use Rattle.surface.specs.Examples.{steep, Examples}
 
 pub examples : Examples
 unfolding floorDiv round value byR byS jet bend cornerNumbers inOrder weights weighed halved transposed flipped mirrored swap negateX negateY exchanged topDown leftRight onTop onLeft sibson element reading.rounded reading.level reading.tiltX reading.tiltY reading.bendXX reading.bendXY reading.bendYY side cell signed marked supported countIn decoded heightIn slopeIn nodeIn nodeAt heightAt slopeXAt slopeYAt refusals.some refusals.otherMark refusals.otherVersion refusals.otherCounts refusals.otherLength refusals.wrongStep refusals.wrongLine refusals.wrongLines refusals.wrongNodes refusals.outside refusals.offMesh refusals.otherKind refusals.table refusals.first refusals.member refusals.part refusals.readingRefusal ieee.span ieee.climb ieee.size ieee.odd ieee.units ieee.round ieee.div ieee.ofInt quotient answered refused cellOf cellAlong columnAt rowAt place touches nodeNumbers nodesOf setOf levelAt tiltXAt tiltYAt bendXXAt bendXYAt bendYYAt level tiltX tiltY bendXX bendXY bendYY numbers read
-examples = record { starred = refl; quarter = refl; onDiagonal = tt; diagonalBend = refl; onLine = tt; lineLevel = refl; lineBend = refl }
+examples = record {
+  starredRead = refl;
+  furtherRead = refl;
+  level = refl;
+  tilt = refl;
+  bend = refl;
+  refused = refl;
+  onDiagonal = tt;
+  diagonalBend = refl;
+  onVertical = tt;
+  verticalLevel = refl;
+  verticalBend = refl;
+  onHorizontal = tt;
+  horizontalLevel = refl;
+  horizontalBend = refl;
+}
 
 -- on a diagonal the bend is not the same from both pieces
 pub bends : ¬ ((s : List ℕ) (p : Place) (x y : ℕ) → Accepted s → T (touches s p x y) → bendXXAt s p ≡ bendXX s x y)

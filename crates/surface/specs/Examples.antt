@@ -1,17 +1,17 @@
--- 01's starred examples on whole sheets in bytes, and a sheet of two cells: what reading answers, computed on the definitions. Assumes nothing.
+-- 01's starred examples on whole sheets in bytes, and a sheet of four cells: what reading answers, computed on the definitions. Assumes nothing.
 use Prim.Native.Nat.{ℕ}
 use mathlib.Core.Path.{_≡_}
 use mathlib.Core.List.{List, [], _∷_, _++_, map}
-use mathlib.Core.Bool.{false}
+use mathlib.Core.Bool.{true, false}
 use lib.Dec.{T}
 use lib.Ieee.{fin}
-use lib.IntN.{ℤ, negsuc}
-use Rattle.sibson.specs.Piece.{right, left}
+use lib.IntN.{ℤ, pos, negsuc}
+use Rattle.sibson.specs.Piece.{right, bottom, left}
 use Rattle.sibson.specs.Element.{+_, −_}
 use Rattle.sheet.specs.Examples.{header, sheetA}
-use Rattle.answers.specs.Answers.{Outcome, answered, refused}
+use Rattle.answers.specs.Answers.{Outcome, answered}
 use Rattle.surface.specs.Place.{seen, touches}
-use Rattle.surface.specs.Surface.{levelAt, bendXXAt}
+use Rattle.surface.specs.Surface.{levelAt, bendXXAt, bendYYAt}
 use Rattle.surface.specs.Read.{read}
 
 -- ---- sheets
@@ -30,14 +30,15 @@ plane =
     header ++ (0 ∷ 0 ∷ 2 ∷ 0 ∷ 0 ∷ 0 ∷ 2 ∷ 0 ∷ []) ++
     (0 ∷ 0 ∷ 64 ∷ 0 ∷ 0 ∷ 0 ∷ []) ++ (2 ∷ 0 ∷ 64 ∷ 0 ∷ 0 ∷ 0 ∷ []) ++ (0 ∷ 0 ∷ 64 ∷ 0 ∷ 0 ∷ 0 ∷ []) ++ (2 ∷ 0 ∷ 64 ∷ 0 ∷ 0 ∷ 0 ∷ [])
 
--- good_04.lvs of tests/vectors: vertical lines 0, 3 and 4, horizontal lines 0 and 2
-abbrev pub twoCells : List ℕ
-twoCells =
-    (0x4C ∷ 0x56 ∷ 0x53 ∷ 1 ∷ 0 ∷ 3 ∷ 2 ∷ 0 ∷ []) ++ (0 ∷ 0 ∷ 3 ∷ 0 ∷ 4 ∷ 0 ∷ 0 ∷ 0 ∷ 2 ∷ 0 ∷ []) ++
-    (0 ∷ 0 ∷ 255 ∷ 15 ∷ 1 ∷ 0 ∷ 1 ∷ 0 ∷ 5 ∷ 0 ∷ 245 ∷ 255 ∷ 1 ∷ 240 ∷ 0 ∷ 0 ∷ 1 ∷ 240 ∷ []) ++
-    (4 ∷ 0 ∷ 0 ∷ 0 ∷ 255 ∷ 255 ∷ 254 ∷ 255 ∷ 255 ∷ 255 ∷ 4 ∷ 0 ∷ 244 ∷ 255 ∷ 2 ∷ 0 ∷ 255 ∷ 15 ∷ [])
+-- good_06.lvs of tests/vectors: vertical lines 1, 4 and 7, horizontal lines 283, 284 and 287
+abbrev pub fourCells : List ℕ
+fourCells =
+    (0x4C ∷ 0x56 ∷ 0x53 ∷ 1 ∷ 0 ∷ 3 ∷ 3 ∷ 0 ∷ []) ++ (1 ∷ 0 ∷ 4 ∷ 0 ∷ 7 ∷ 0 ∷ 27 ∷ 1 ∷ 28 ∷ 1 ∷ 31 ∷ 1 ∷ []) ++
+    (1 ∷ 240 ∷ 250 ∷ 255 ∷ 0 ∷ 0 ∷ 0 ∷ 0 ∷ 255 ∷ 255 ∷ 4 ∷ 0 ∷ 1 ∷ 0 ∷ 1 ∷ 240 ∷ 0 ∷ 0 ∷ []) ++
+    (248 ∷ 255 ∷ 0 ∷ 0 ∷ 253 ∷ 255 ∷ 0 ∷ 0 ∷ 0 ∷ 0 ∷ 255 ∷ 15 ∷ 1 ∷ 240 ∷ 1 ∷ 240 ∷ 1 ∷ 240 ∷ []) ++
+    (1 ∷ 0 ∷ 1 ∷ 0 ∷ 248 ∷ 255 ∷ 7 ∷ 0 ∷ 255 ∷ 15 ∷ 255 ∷ 255 ∷ 255 ∷ 255 ∷ 0 ∷ 0 ∷ 1 ∷ 0 ∷ [])
 
--- ---- the table
+-- ---- tables
 
 -- a sheet, a pixel, a kind of reading, and what reading there answers
 pub record Example : Type 0 where
@@ -57,12 +58,13 @@ tiltOf s x y z w = record { sheet = s; x = x; y = y; kind = 1; gives = answered 
 abbrev pub bendOf : List ℕ → ℕ → ℕ → ℤ → ℤ → ℤ → Example
 bendOf s x y xx xy yy = record { sheet = s; x = x; y = y; kind = 2; gives = answered 2 (xx ∷ xy ∷ yy ∷ []) }
 
--- a refusal
+-- a refusal: its number and no values
 abbrev pub refusal : List ℕ → ℕ → ℕ → ℕ → ℕ → Example
-refusal s x y kind n = record { sheet = s; x = x; y = y; kind = kind; gives = refused n }
+refusal s x y kind n = record { sheet = s; x = x; y = y; kind = kind; gives = record { number = n; values = [] } }
 
-abbrev pub table : List Example
-table =
+-- 01's examples with a star
+abbrev pub starred : List Example
+starred =
     -- sheet A
     levelOf sheetA 0 0 (+ 64) ∷
     levelOf sheetA 1 0 (+ 32) ∷
@@ -80,28 +82,50 @@ table =
     levelOf (steep 2 254 255) 1 0 (+ 0) ∷
     levelOf (steep 2 253 255) 1 0 (− 1) ∷
     -- a plane
-    levelOf plane 1 1 (+ 64) ∷
-    -- two cells, as the vectors have them: in the first, on the line between them, in the second, on the last line
-    bendOf twoCells 2 1 (+ 2482) (+ 77788) (+ 480) ∷
-    levelOf twoCells 3 1 (− 36) ∷
-    tiltOf twoCells 3 1 (+ 2) (− 142) ∷
-    bendOf twoCells 3 1 (− 50978368) (− 192) (+ 480) ∷
-    tiltOf twoCells 4 0 (+ 0) (− 4095) ∷
-    bendOf twoCells 4 1 (+ 50978240) (+ 64) (+ 262080) ∷
+    levelOf plane 1 1 (+ 64) ∷ []
+
+-- four cells, as the vectors have them, and refusals
+abbrev pub further : List Example
+further =
+    -- in the first cell; on the line to its right; on the line below it; where the inner lines cross
+    bendOf fourCells 2 283 (+ 3727616) (+ 85) (+ 66787221) ∷
+    bendOf fourCells 4 283 (+ 177536) (− 85) (− 524736) ∷
+    bendOf fourCells 2 284 (+ 7282) (+ 87424) (− 151559) ∷
+    levelOf fourCells 4 284 (+ 0) ∷
+    tiltOf fourCells 4 284 (+ 0) (+ 4095) ∷
+    bendOf fourCells 4 284 (− 11007360) (− 174720) (− 68203) ∷
+    -- in the last cell, on a diagonal of it, and on the outermost lines
+    levelOf fourCells 6 285 (− 144896) ∷
+    bendOf fourCells 5 285 (− 3727360) (+ 3603570) (− 22734) ∷
+    bendOf fourCells 7 285 (+ 7432896) (+ 87360) (+ 3901170) ∷
+    bendOf fourCells 5 287 (− 182002) (+ 43) (− 3710087) ∷
+    tiltOf fourCells 7 287 (+ 0) (+ 1) ∷
     -- refused: outside; outside and of no kind; of no kind; no sheet
-    refusal twoCells 5 1 0 7 ∷
-    refusal twoCells 4 3 3 7 ∷
-    refusal twoCells 4 2 3 9 ∷
+    refusal fourCells 8 285 0 7 ∷
+    refusal fourCells 4 288 3 7 ∷
+    refusal fourCells 7 287 3 9 ∷
     refusal [] 0 0 3 1 ∷ []
 
+-- each reads as it says
+abbrev pub Reads : List Example → Type 0
+Reads table = map (λ e. read (e .sheet) (e .x) (e .y) (e .kind)) table ≡ map (λ e. e .gives) table
+
 pub record Examples : Type 0 where
-  pub starred : map (λ e. read (e .sheet) (e .x) (e .y) (e .kind)) table ≡ map (λ e. e .gives) table
-  -- the level 16 as a float: 2⁻²
-  pub quarter : read sheetA 1 1 0 ≡ record { number = 0; values = fin false 1 (negsuc 1) ∷ [] }
+  pub starredRead : Reads starred
+  pub furtherRead : Reads further
+  -- as floats: the level 16 of A is 2⁻², its tilt −48, 0 is −3 · 2⁻², +0, its bend 0, 3072, 0 is +0, 3 · 2⁻², +0
+  pub level : read sheetA 1 1 0 ≡ record { number = 0; values = fin false 1 (negsuc 1) ∷ [] }
+  pub tilt : read sheetA 1 0 1 ≡ record { number = 0; values = fin true 3 (negsuc 1) ∷ fin false 0 (pos 0) ∷ [] }
+  pub bend : read sheetA 1 1 2 ≡ record { number = 0; values = fin false 0 (pos 0) ∷ fin false 3 (negsuc 1) ∷ fin false 0 (pos 0) ∷ [] }
+  -- a refusal has its number and no values
+  pub refused : read sheetA 3 0 3 ≡ record { number = 7; values = [] }
   -- on a diagonal piece 3 touches the pixel too; its bend xx is another, the one that 01 warns of
   pub onDiagonal : T (touches (steep 4 64 0) (seen (steep 4 64 0) 0 0 left 1 1) 1 1)
   pub diagonalBend : bendXXAt (steep 4 64 0) (seen (steep 4 64 0) 0 0 left 1 1) ≡ − 1792
-  -- on an inner line the cell to the left touches the pixel too: the same level, another bend
-  pub onLine : T (touches twoCells (seen twoCells 0 0 right 3 1) 3 1)
-  pub lineLevel : levelAt twoCells (seen twoCells 0 0 right 3 1) ≡ − 36
-  pub lineBend : bendXXAt twoCells (seen twoCells 0 0 right 3 1) ≡ + 94478
+  -- on an inner line the cell to the left, or above, touches the pixel too: the same level, another bend
+  pub onVertical : T (touches fourCells (seen fourCells 0 0 right 4 283) 4 283)
+  pub verticalLevel : levelAt fourCells (seen fourCells 0 0 right 4 283) ≡ + 0
+  pub verticalBend : bendXXAt fourCells (seen fourCells 0 0 right 4 283) ≡ − 11182428
+  pub onHorizontal : T (touches fourCells (seen fourCells 0 0 bottom 2 284) 2 284)
+  pub horizontalLevel : levelAt fourCells (seen fourCells 0 0 bottom 2 284) ≡ − 379
+  pub horizontalBend : bendYYAt fourCells (seen fourCells 0 0 bottom 2 284) ≡ − 66525589

@@ -1,8 +1,8 @@
 -- The surface of a sheet: in each cell the Sibson element of its four nodes; and level, tilt and bend, read from it. Assumes nothing.
 use Prim.Native.Nat.{ℕ, suc}
 use mathlib.Core.List.{List}
-use lib.IntN.{ℤ, pos}
-use Rattle.sibson.specs.Fraction.{ℚ, _·ℚ_}
+use lib.IntN.{ℤ}
+use Rattle.sibson.specs.Fraction.{ℚ}
 use Rattle.sibson.specs.Cubic.{Cubic, Jet, jet, Bend, bend}
 use Rattle.sibson.specs.Piece.{FourCubics, leftTop, rightTop, leftBottom, rightBottom}
 use Rattle.sibson.specs.Element.{Nodes, element}

@@ -4,21 +4,22 @@ use mathlib.Core.Path.{_≡_}
 use mathlib.Core.List.{List, [], _∷_}
 use lib.Ieee.{Float}
 use lib.IntN.{ℤ, natAbs, _*ℤ_}
-use Rattle.sibson.specs.Fraction.{Positive, ℚ, whole, half, _-ℚ_, _÷_}
+use Rattle.sibson.specs.Fraction.{Positive, positive, ℚ, whole, half, _-ℚ_, _÷_}
 use Rattle.sibson.specs.Cubic.{jet, _≋_}
 use Rattle.sibson.specs.Piece.{top, right, bottom, left, FourCubics, edge}
 use Rattle.sibson.specs.Conditions.{Meets, Equal}
 use Rattle.sibson.specs.Theorems.{Has, wholes}
 use Rattle.readings.specs.Reading.{_withinℚ_}
 use Rattle.sheet.specs.Format.{columns, rows, lineX, lineY, Node, grainsPerStep, heightAt, slopeXAt, slopeYAt}
-use Rattle.sheet.specs.Refusals.{settingRefusal, Accepted}
+use Rattle.sheet.specs.Refusals.{settingRefusal, readingRefusal, Accepted}
 use Rattle.sheet.specs.WellFormed.{Inside}
 use Rattle.sheet.specs.Calls.{withNode}
-use Rattle.answers.specs.Answers.{outcome, divisor, answered}
+use Rattle.answers.specs.Answers.{outcome, divisor, quotient, answered}
 use Rattle.answers.specs.AnswerLaws.{_is_}
 use Rattle.answers.specs.declared.Answer.{Answer}
+use Rattle.answers.specs.declared.Answer.the-variants.{Level, Tilt, Bend, Refused}
 use Rattle.surface.specs.Place.{cellOf, HasCell}
-use Rattle.surface.specs.Surface.{nodesOf, setOf, level, tiltX, tiltY}
+use Rattle.surface.specs.Surface.{nodesOf, setOf, level, tiltX, tiltY, bendXX, bendXY, bendYY}
 use Rattle.surface.specs.Read.{exact, read}
 
 -- ---- the set we read from
@@ -45,6 +46,16 @@ pub record SharedEdges : Type 0 where
 
 -- ---- what a reading returns
 
+-- which answer `read` returns, by the refusal and the kind
+pub record ReadLaws : Type 0 where
+  -- refused, the number of the first condition to hold and nothing else
+  pub refused : (s : List ℕ) (x y kind : ℕ) → ¬ (readingRefusal s x y kind ≡ 0) → (r : Answer) → outcome r ≡ read s x y kind → r ≡ Refused (readingRefusal s x y kind)
+  -- else the level, the tilt or the bend, quotient (positive 64 tt), 64 and 4,096
+  pub level : (s : List ℕ) (x y : ℕ) → readingRefusal s x y 0 ≡ 0 → (r : Answer) → outcome r ≡ read s x y 0 → r ≡ Level (quotient (positive 64 tt) (level s x y))
+  pub tilt : (s : List ℕ) (x y : ℕ) → readingRefusal s x y 1 ≡ 0 → (r : Answer) → outcome r ≡ read s x y 1 → r ≡ Tilt (quotient (positive 64 tt) (tiltX s x y)) (quotient (positive 64 tt) (tiltY s x y))
+  pub bend : (s : List ℕ) (x y : ℕ) → readingRefusal s x y 2 ≡ 0 → (r : Answer) → outcome r ≡ read s x y 2 →
+      r ≡ Bend (quotient (positive 4096 tt) (bendXX s x y)) (quotient (positive 4096 tt) (bendXY s x y)) (quotient (positive 4096 tt) (bendYY s x y))
+
 -- the float is exactly a whole number over d, and that number lies within half a unit of x
 pub record HalfUnitFrom (d : Positive) (v : Float) (x : ℚ) : Type 0 where
   pub number : ℤ
@@ -63,12 +74,12 @@ EachPair P (x ∷ xs) (y ∷ ys) = P x y × EachPair P xs ys
 pub record HalfUnits : Type 0 where
   pub returned : (s : List ℕ) (x y kind : ℕ) → Accepted s → Inside s x y → kind ≤ 2 → (r : Answer) → outcome r ≡ read s x y kind →
       (outcome r .number ≡ 0) × EachPair (HalfUnitFrom (divisor kind)) (outcome r .values) (exact s x y kind)
-
--- ---- levels, and readings at nodes
-
-pub record AtNodes : Type 0 where
   -- a level lies strictly between −2²⁰ and 2²⁰
   pub levels : (s : List ℕ) (x y : ℕ) → Accepted s → Inside s x y → natAbs (level s x y) < 2 ^ 20
+
+-- ---- readings at nodes
+
+pub record AtNodes : Type 0 where
   -- at a node's pixel the level is its height in grains, and the tilt its slopes
   pub nodeLevels : (s : List ℕ) (i j : ℕ) → Accepted s → i < columns s → j < rows s → level s (lineX s i) (lineY s j) ≡ heightAt s i j
   pub nodeTiltsX : (s : List ℕ) (i j : ℕ) → Accepted s → i < columns s → j < rows s → tiltX s (lineX s i) (lineY s j) ≡ slopeXAt s i j

@@ -1,19 +1,23 @@
 -- The place that a pixel is read at, among all its places: level and tilt are the same from each, the bend is not. Assumes nothing.
-use Prim.Native.Nat.{ℕ, suc, _-_, _≤_, _<_}
+use Prim.Native.Nat.{ℕ, suc, _+_, _-_, _≤_, _<_}
 use mathlib.Core.Path.{_≡_}
+use mathlib.Core.Logic.{_↔_}
 use mathlib.Core.List.{List}
 use lib.Dec.{T}
 use Rattle.sibson.specs.Cubic.{_≋_}
-use Rattle.sibson.specs.Piece.{number}
+use Rattle.sibson.specs.Piece.{number, triangle}
 use Rattle.sheet.specs.Format.{columns, rows, lineX, lineY}
 use Rattle.sheet.specs.Refusals.{Accepted}
 use Rattle.sheet.specs.WellFormed.{Inside}
-use Rattle.surface.specs.Place.{Place, columnAt, rowAt, place, touches}
+use Rattle.surface.specs.Place.{HasCell, Place, pointAt, columnAt, rowAt, place, touches}
 use Rattle.surface.specs.Surface.{jetAt, levelAt, tiltXAt, tiltYAt, bendXXAt, level, tiltX, tiltY, bendXX}
 
 -- 01's place of a pixel of an accepted sheet
 pub record PlaceLaws : Type 0 where
-  -- it is a place of the pixel; every place of the pixel is one of the mesh
+  -- touching says that the pixel lies in a cell of the sheet, borders included, at these offsets, and there in the piece
+  pub means : (s : List ℕ) (p : Place) (x y : ℕ) → T (touches s p x y) ↔ (HasCell s (p .column) (p .row) × (lineX s (p .column) + p .a ≡ x) × (x ≤ lineX s (suc (p .column)))
+      × (lineY s (p .row) + p .b ≡ y) × (y ≤ lineY s (suc (p .row))) × T (triangle (p .piece) (pointAt s p)))
+  -- the place is one of the pixel's; every place of the pixel is one of the mesh
   pub there : (s : List ℕ) (x y : ℕ) → Accepted s → Inside s x y → T (touches s (place s x y) x y)
   pub inside : (s : List ℕ) (p : Place) (x y : ℕ) → Accepted s → T (touches s p x y) → Inside s x y
   -- a pixel on an inner line belongs to the cell to its right or below; one on the last line to the last cell

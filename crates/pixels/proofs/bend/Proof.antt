@@ -22,7 +22,7 @@ is-yy c = let d = c .before in c .new .ensures .2 ∙ unchanged w64 (d .bend-yy 
 
 answer-requires : tie.Need-answer-requires
 answer-requires c κs =
-    let p = c .before .before .before .before .pre .1 in (subst⁻¹ Small (is-xx c) (p .0), subst⁻¹ Small (is-xy c) (p .1), subst⁻¹ Small (is-yy c) (p .2))
+    let p = c .before .before .before .before .pre in (subst⁻¹ Small (is-xx c) (p .2), subst⁻¹ Small (is-xy c) (p .3), subst⁻¹ Small (is-yy c) (p .4))
 
 returns : tie.Need-returns
 returns c = c .answer .ensures ∙ (λ t. answered 2 (is-xx (c .before) t ∷ is-xy (c .before) t ∷ is-yy (c .before) t ∷ []))

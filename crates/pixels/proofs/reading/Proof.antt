@@ -2,7 +2,6 @@
 use denote.Ref.{now}
 use mathlib.Core.Path.{_∙_, ap, ap₂, subst⁻¹}
 use mathlib.Core.List.{[], _∷_}
-use borrow.Author.Needs.{needs}
 use Rattle.readings.specs.Reading as reading
 use Rattle.sheet.proofs.Chains.{HasPixel, reading-held}
 use Rattle.answers.specs.Answers.{answered, Small}
@@ -61,7 +60,7 @@ bend-requires : tie.Need-bend-requires
 unfolding bendXX bendXY bendYY bendXXAt bendXYAt bendYYAt
 bend-requires c κs = let d = c .before .before in let e = evaluates d in let h = held (d .before .before .before .before .before) in
     let b = small-bends _ _ _ (h .accepted) (h .inside) in
-    ((e .sized, e .inside), (subst⁻¹ Small (same e reading.bendXX) (b .0), subst⁻¹ Small (same e reading.bendXY) (b .1), subst⁻¹ Small (same e reading.bendYY) (b .2)))
+    (e .sized, e .inside, subst⁻¹ Small (same e reading.bendXX) (b .0), subst⁻¹ Small (same e reading.bendXY) (b .1), subst⁻¹ Small (same e reading.bendYY) (b .2))
 
 returns-3 : tie.Need-returns-3
 unfolding bendXX bendXY bendYY bendXXAt bendXYAt bendYYAt

@@ -3,7 +3,7 @@ use Prim.Native.Nat.{_*_, _≤_}
 use mathlib.Core.Path.{ap}
 use native.Mathlib.Nat.{le-trans, mul-le-mul}
 use native.Mathlib.Omega.{arith}
-use Rattle.places.specs.Found.{named}
+use Rattle.pieces.specs.Parts.{named}
 use Rattle.places.proofs.Pieces.{at-top, at-right, at-bottom, at-left}
 use Rattle.places.proofs.piece.Statement.{statement}
 use Rattle.places.proofs.piece.Tie as tie
