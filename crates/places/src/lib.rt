@@ -1,7 +1,6 @@
 // Where a pixel lies on an accepted sheet: outside the mesh, or in a cell, at offsets in it, in a piece of it.
 ghost use mathlib.Core.Path.{_≡_};
-ghost use Prim.Native.Nat.{_+_, _*_, _-_, _≤_};
-ghost use lib.ListN.{length};
+ghost use Prim.Native.Nat.{_-_};
 ghost use Rattle.sibson.specs.Piece.{pieceAt};
 ghost use Rattle.sheet.specs.Refusals.{outside, Accepted};
 ghost use Rattle.sheet.specs.WellFormed.{Inside};
@@ -50,17 +49,17 @@ pub fn find(sheet: &[u8], x: u32, y: u32) -> Place
     let m = columns(sheet);
     let n = rows(sheet);
     let y_lines = HEADER_SIZE + 2 * m;
-    let h = on_axis(sheet, HEADER_SIZE, m, x);
-    let v = on_axis(sheet, y_lines, n, y);
+    let across = on_axis(sheet, HEADER_SIZE, m, x);
+    let down = on_axis(sheet, y_lines, n, y);
     let pixel = Pixel {
-        a: h.offset,
-        b: v.offset,
-        width: h.size,
-        height: v.size,
+        a: across.offset,
+        b: down.offset,
+        width: across.size,
+        height: down.size,
     };
     Place {
-        column: h.cell,
-        row: v.cell,
+        column: across.cell,
+        row: down.cell,
         pixel: pixel,
         piece: piece(pixel),
     }
@@ -71,6 +70,7 @@ pub fn piece(p: Pixel) -> Piece
     requires { ⌜ pixels.Inside p ⌝ }
     ensures { λ r. ⌜ r ≡ named (pieceAt (pixels.pointOf p)) ⌝ }
 {
+    // r, s and 1, times the cell's area
     let x = p.a * p.height;
     let y = p.b * p.width;
     let q = p.width * p.height;
@@ -88,7 +88,7 @@ pub fn piece(p: Pixel) -> Piece
 
 // Whether a position lies before an axis's first line or beyond its last.
 fn off_axis(sheet: &[u8], start: usize, lines: usize, position: u32) -> bool
-    requires { ⌜ (1 ≤ lines) × (lines ≤ 65) × (start + 2 * lines ≤ length (now sheet)) ⌝ }
+    requires { ⌜ Axis (now sheet) start lines ⌝ }
     ensures { λ r. ⌜ r ≡ offAxis (lineFrom (now (sheet .entry)) start) lines position ⌝ }
 {
     (position < word(sheet, start)) | (word(sheet, start + 2 * lines - 2) < position)

@@ -50,7 +50,7 @@ pub record SharedEdges : Type 0 where
 pub record ReadLaws : Type 0 where
   -- refused, the number of the first condition to hold and nothing else
   pub refused : (s : List ℕ) (x y kind : ℕ) → ¬ (readingRefusal s x y kind ≡ 0) → (r : Answer) → outcome r ≡ read s x y kind → r ≡ Refused (readingRefusal s x y kind)
-  -- else the level, the tilt or the bend, quotient (positive 64 tt), 64 and 4,096
+  -- else the level, the tilt or the bend, over 64, 64 and 4,096
   pub level : (s : List ℕ) (x y : ℕ) → readingRefusal s x y 0 ≡ 0 → (r : Answer) → outcome r ≡ read s x y 0 → r ≡ Level (quotient (positive 64 tt) (level s x y))
   pub tilt : (s : List ℕ) (x y : ℕ) → readingRefusal s x y 1 ≡ 0 → (r : Answer) → outcome r ≡ read s x y 1 → r ≡ Tilt (quotient (positive 64 tt) (tiltX s x y)) (quotient (positive 64 tt) (tiltY s x y))
   pub bend : (s : List ℕ) (x y : ℕ) → readingRefusal s x y 2 ≡ 0 → (r : Answer) → outcome r ≡ read s x y 2 →

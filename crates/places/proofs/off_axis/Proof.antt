@@ -12,7 +12,7 @@ returns : tie.Need-returns
 unfolding offAxis
 returns c =
     let a = c .before .before .before .args in
-    let last : a .start + 2 * a .lines - 2 ≡ a .start + 2 * (a .lines - 1) = omega (arith, c .before .before .before .pre .0) in
+    let last : a .start + 2 * a .lines - 2 ≡ a .start + 2 * (a .lines - 1) = omega (arith, c .before .before .before .pre .few) in
     rw (c .before .word .ensures .0, c .word2 .ensures .0, add-zero (a .start), last) refl
 
 pub off-axis-spec : {M : Type 1} → statement M

@@ -1,5 +1,4 @@
 -- `places::outside` meets its contract. Assumes nothing.
-use native.Mathlib.Omega.{arith}
 use borrow.Author.Needs.{needs}
 use Rattle.sheet.proofs.WellFormed.{header-there}
 use Rattle.places.proofs.Axes.{off-either, x-axis, y-axis}
@@ -7,12 +6,10 @@ use Rattle.places.proofs.outside.Statement.{statement}
 use Rattle.places.proofs.outside.Tie as tie
 
 off-axis-requires : tie.Need-off-axis-requires
-off-axis-requires c κs = let x = x-axis _ (c .before .before .before .pre) in rw (c .before .columns .ensures .0) (omega (arith, x .few), x .many, x .there)
+off-axis-requires c κs = rw (c .before .columns .ensures .0) (x-axis _ (c .before .before .before .pre))
 
 off-axis-requires-2 : tie.Need-off-axis-requires-2
-off-axis-requires-2 c κs =
-    let y = y-axis _ (c .before .before .before .before .pre) in
-    rw (c .before .rows .ensures .0, c .before .before .columns .ensures .0) (omega (arith, y .few), y .many, y .there)
+off-axis-requires-2 c κs = rw (c .before .rows .ensures .0, c .before .before .columns .ensures .0) (y-axis _ (c .before .before .before .before .pre))
 
 returns : tie.Need-returns
 returns c =

@@ -1,4 +1,5 @@
 -- `answers::BendReading::answer` meets its contract. Assumes nothing.
+use mathlib.Core.Path.{refl}
 use Rattle.answers.specs.Answers.{outcome, answered}
 use Rattle.answers.proofs.Floats.{in-float, divides}
 use Rattle.answers.proofs.BendReading.answer.Statement.{statement}
@@ -6,7 +7,7 @@ use Rattle.answers.proofs.BendReading.answer.Tie as tie
 
 returns : tie.Need-returns
 unfolding outcome answered
-returns c = let h = c .before .before .before .before .before .before .pre in rw (divides 2 _ (h .0), divides 2 _ (h .1), divides 2 _ (h .2))
+returns c = let h = c .before .before .before .before .before .before .pre in rw (divides 2 _ (h .0), divides 2 _ (h .1), divides 2 _ (h .2)) refl
 
 pub answer-spec : {M : Type 1} → statement M
 answer-spec = tie.close (tie.spec

@@ -1,4 +1,5 @@
 -- `answers::LevelReading::answer` meets its contract. Assumes nothing.
+use mathlib.Core.Path.{refl}
 use Rattle.answers.specs.Answers.{outcome, answered}
 use Rattle.answers.proofs.Floats.{in-float, divides}
 use Rattle.answers.proofs.LevelReading.answer.Statement.{statement}
@@ -6,7 +7,7 @@ use Rattle.answers.proofs.LevelReading.answer.Tie as tie
 
 returns : tie.Need-returns
 unfolding outcome answered
-returns c = rw (divides 0 _ (c .before .before .pre))
+returns c = rw (divides 0 _ (c .before .before .pre)) refl
 
 pub answer-spec : {M : Type 1} → statement M
 answer-spec = tie.close (tie.spec (λ c. in-float _ (c .before .before .pre)) returns)
