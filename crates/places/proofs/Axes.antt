@@ -31,7 +31,7 @@ alongX s x = onAxis (lineFrom s xLinesOffset) (columns s - 2) x
 abbrev pub alongY : List ℕ → ℕ → OnAxis
 alongY s y = onAxis (lineFrom s (yLinesOffset s)) (rows s - 2) y
 
-abbrev pub pixelAt : List ℕ → ℕ → ℕ → Pixel
+abbrev pixelAt : List ℕ → ℕ → ℕ → Pixel
 pixelAt s x y = record { a = alongX s x .offset; b = alongY s y .offset; width = alongX s x .size; height = alongY s y .size }
 
 -- the place of a pixel, by these

@@ -78,10 +78,10 @@ module _ (s : List ℕ) (i j : ℕ) (accepted : Accepted s) (l : i < columns s) 
   node-place =
       let column = columnAt s x in let row = rowAt s y in let cell = has-cell s accepted x y in
       at-corner s i j p
-      (ends (lineX s) l (λ h. place-laws .inColumn s x i accepted h (omega arith) (x-rising s accepted .rises i h))
-      (λ e. rw e (place-laws .lastColumn s accepted)) (width-back s accepted column row cell))
-      (ends (lineY s) k (λ h. place-laws .inRow s y j accepted h (omega arith) (y-rising s accepted .rises j h))
-      (λ e. rw e (place-laws .lastRow s accepted)) (height-back s accepted column row cell))
+      (ends (lineX s) l (λ h. place-laws .inColumn s x y i accepted h (omega arith) (x-rising s accepted .rises i h))
+      (λ e. rw e (place-laws .lastColumn s y accepted)) (width-back s accepted column row cell))
+      (ends (lineY s) k (λ h. place-laws .inRow s x y j accepted h (omega arith) (y-rising s accepted .rises j h))
+      (λ e. rw e (place-laws .lastRow s x accepted)) (height-back s accepted column row cell))
 
   node-level : level s x y ≡ heightAt s i j
   unfolding nodeNumbers setOf level levelAt

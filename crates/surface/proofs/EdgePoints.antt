@@ -3,6 +3,8 @@ use Prim.Native.Nat.{ℕ}
 use mathlib.Core.Path.{_≡_, refl}
 use lib.Dec.{T}
 use lib.IntN.{pos}
+use Rattle.integers.proofs.Polynomial.{#_, _⊗_}
+use Rattle.integers.proofs.Solve.{_≐_, solve}
 use Rattle.sibson.specs.Fraction.{Positive, ℚ, _≈_, _≤ℚ_, whole, _÷_, complement}
 use Rattle.sibson.specs.Cubic.{Cell, Point, Jet, jet, _≋_}
 use Rattle.sibson.specs.Piece.{Piece, top, right, bottom, left, FourCubics, InCell, triangle, edge}
@@ -10,7 +12,6 @@ use Rattle.sibson.specs.Conditions.{Smooth}
 use Rattle.sibson.proofs.Fractions.{≈-sym, ≈-÷-none, ≤-left, ≤-right, ≤-complement}
 use Rattle.sibson.proofs.Jets.{_≈ₚ_, jet-at, ≋-sym, ≋-trans}
 use Rattle.sibson.proofs.Covers.{test, covering}
-use Rattle.readings.proofs.AtCorners.{at-corners}
 
 -- ---- a point of a piece's edge is one of the piece
 
@@ -39,7 +40,7 @@ pub record View : Type 0 where
   pub piece : Piece
   pub holds : T (triangle piece P)
 
-abbrev pub seenJet : View → Jet ℚ
+abbrev seenJet : View → Jet ℚ
 seenJet v = jet (v .C) (v .S (v .piece)) (v .P)
 
 -- another piece that holds the point sees the same
@@ -59,7 +60,7 @@ over-edge v w k l t agree e f = ≋-trans {j = seenJet v} {k = jet (v .C) (v .S 
 -- ---- where a pixel is on an edge: n/n and 0/n
 
 pub at-end : (n : Positive) {m : ℕ} → m ≡ n .number → whole (pos m) ÷ n ≈ whole (pos 1)
-at-end n e = rw e (at-corners .pixels (record { W = n; H = n }) .1 .across)
+at-end n e = rw e (record { crossed = solve 1 (λ n. n ⊗ # 1 ≐ # 1 ⊗ (# 1 ⊗ n)) tt (pos (n .number)) })
 
 pub at-start : (n : Positive) {m : ℕ} → m ≡ 0 → whole (pos m) ÷ n ≈ whole (pos 0)
 at-start n e = rw e (≈-÷-none n)

@@ -10,7 +10,7 @@ use Rattle.sheet.specs.Refusals.{Accepted}
 use Rattle.sheet.specs.WellFormed.{Inside}
 use Rattle.answers.specs.Answers.{divisor, quotient, answered, Small}
 use Rattle.answers.proofs.Quotients.{quotient-laws}
-use Rattle.surface.specs.Surface.{jetAt, bendAt, levelAt, tiltXAt, tiltYAt, bendXXAt, bendXYAt, bendYYAt, level, tiltX, tiltY, bendXX, bendXY, bendYY}
+use Rattle.surface.specs.Surface.{levelAt, tiltXAt, tiltYAt, bendXXAt, bendXYAt, bendYYAt, level, tiltX, tiltY, bendXX, bendXY, bendYY}
 use Rattle.surface.specs.Read.{numbers, exact}
 use Rattle.surface.specs.Theorems.{HalfUnitFrom, EachPair, HalfUnits}
 use Rattle.surface.proofs.Answered.{read-is}
@@ -21,7 +21,7 @@ from-rounded kind x h = record { number = rounded x; float = quotient-laws .exac
 
 module _ (s : List ℕ) (x y : ℕ) (accepted : Accepted s) (inside : Inside s x y) where
   each : (kind : ℕ) → EachPair (HalfUnitFrom (divisor kind)) (map (quotient (divisor kind)) (numbers s x y kind)) (exact s x y kind)
-  unfolding reading.level reading.tiltX reading.tiltY reading.bendXX reading.bendXY reading.bendYY jetAt bendAt levelAt tiltXAt tiltYAt bendXXAt bendXYAt bendYYAt level tiltX tiltY bendXX bendXY bendYY numbers exact
+  unfolding reading.level reading.tiltX reading.tiltY reading.bendXX reading.bendXY reading.bendYY levelAt tiltXAt tiltYAt bendXXAt bendXYAt bendYYAt level tiltX tiltY bendXX bendXY bendYY numbers exact
   each zero = (from-rounded 0 _ (small-level s x y accepted inside), tt)
   each (suc zero) = let (a, b) = small-tilts s x y accepted inside in (from-rounded 1 _ a, (from-rounded 1 _ b, tt))
   each (suc (suc k)) = let (a, b, c) = small-bends s x y accepted inside in (from-rounded 2 _ a, (from-rounded 2 _ b, (from-rounded 2 _ c, tt)))

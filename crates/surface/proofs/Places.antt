@@ -13,20 +13,11 @@ use Rattle.sheet.specs.Refusals.{Accepted}
 use Rattle.sheet.specs.WellFormed.{Inside}
 use Rattle.sheet.proofs.Meaning.{leb-holds, eqb-holds, and-holds}
 use Rattle.surface.specs.Place.{cellOf, HasCell, Place, pointAt, columnAt, rowAt, place, seen, touches}
-use Rattle.surface.specs.Touching.{PlaceLaws}
+use Rattle.surface.specs.Touching.{Touches, PlaceLaws}
 use Rattle.surface.proofs.Along.{along-starts, along-last, along-in, rise, axis-cell, axis-ends, axis-inside, axis-end}
 use Rattle.surface.proofs.Cells.{sound, x-rising, y-rising, width-back, height-back}
 
 -- ---- what `touches` says, in facts
-
-pub record Touches (s : List ℕ) (p : Place) (x y : ℕ) : Type 0 where
-  pub column : suc (p .column) < columns s
-  pub across : lineX s (p .column) + p .a ≡ x
-  pub toRight : x ≤ lineX s (suc (p .column))
-  pub row : suc (p .row) < rows s
-  pub down : lineY s (p .row) + p .b ≡ y
-  pub toBottom : y ≤ lineY s (suc (p .row))
-  pub piece : T (triangle (p .piece) (pointAt s p))
 
 -- a test that holds
 holds : (b : Bool) → (b ≡ true) ↔ T b
@@ -41,8 +32,8 @@ module _ (s : List ℕ) (p : Place) (x y : ℕ) where
       (leb-holds (suc (suc (p .row))) (rows s))) (eqb-holds (lineY s (p .row) + p .b) y)) (leb-holds y (lineY s (suc (p .row)))))
       (holds (triangle (p .piece) (pointAt s p))) in (
         λ e. let ((((((column, across), toRight), row), down), toBottom), piece) = all .0 e in
-            record { column = column; across = across; toRight = toRight; row = row; down = down; toBottom = toBottom; piece = piece },
-        λ f. all .1 ((((((f .column, f .across), f .toRight), f .row), f .down), f .toBottom), f .piece),
+            record { has = record { column = column; row = row }; across = across; toRight = toRight; down = down; toBottom = toBottom; piece = piece },
+        λ f. all .1 ((((((f .has .column, f .across), f .toRight), f .has .row), f .down), f .toBottom), f .piece),
       )
 
   pub touched : T (touches s p x y) → Touches s p x y
@@ -106,10 +97,9 @@ module _ (s : List ℕ) (accepted : Accepted s) where
     pub there : Touches s (place s x y) x y
     unfolding place
     there = record {
-      column = has-cell x y .column;
+      has = has-cell x y;
       across = omega (arith, column-starts);
       toRight = column-ends;
-      row = has-cell x y .row;
       down = omega (arith, row-starts);
       toBottom = row-ends;
       piece = covering .covers (pointAt s (place s x y));
@@ -124,62 +114,47 @@ module _ (s : List ℕ) (accepted : Accepted s) where
     starts-down = omega (arith, t .down)
 
     pub inside : Inside s x y
-    inside = let across = axis-inside (sound s accepted .risingX) x (p .column) (t .column) starts-across (t .toRight) in
-        let down = axis-inside (sound s accepted .risingY) y (p .row) (t .row) starts-down (t .toBottom) in
+    inside = let across = axis-inside (x-rising s accepted) x (p .column) (t .has .column) starts-across (t .toRight) in
+        let down = axis-inside (y-rising s accepted) y (p .row) (t .has .row) starts-down (t .toBottom) in
         record { left = across .0; right = across .1; top = down .0; bottom = down .1 }
 
-    rightmost : p .column ≤ columnAt s x
-    unfolding columnAt
-    rightmost = along-last (lineX s) x (columns s - 2) (p .column) (omega (arith, t .column)) starts-across
+    rightmost : p .column ≤ place s x y .column
+    unfolding columnAt place
+    rightmost = along-last (lineX s) x (columns s - 2) (p .column) (omega (arith, t .has .column)) starts-across
 
-    lowermost : p .row ≤ rowAt s y
-    unfolding rowAt
-    lowermost = along-last (lineY s) y (rows s - 2) (p .row) (omega (arith, t .row)) starts-down
+    lowermost : p .row ≤ place s x y .row
+    unfolding rowAt place
+    lowermost = along-last (lineY s) y (rows s - 2) (p .row) (omega (arith, t .has .row)) starts-down
 
-    lowest : p .column ≡ columnAt s x → p .row ≡ rowAt s y → number (place s x y .piece) ≤ number (p .piece)
+    lowest : p .column ≡ place s x y .column → p .row ≡ place s x y .row → number (place s x y .piece) ≤ number (p .piece)
     unfolding place
     lowest e f = rw (← e, ← f, offset-a t, offset-b t) (covering .lowest (pointAt s p) (p .piece) (t .piece))
 
-  in-column : (x i : ℕ) → suc i < columns s → lineX s i ≤ x → x < lineX s (suc i) → columnAt s x ≡ i
-  unfolding columnAt
-  in-column x i m = along-in (sound s accepted .risingX) x (columns s - 2) i (omega (arith, m)) (omega (arith, m))
+  in-column : (x y i : ℕ) → suc i < columns s → lineX s i ≤ x → x < lineX s (suc i) → place s x y .column ≡ i
+  unfolding columnAt place
+  in-column x y i m = along-in (x-rising s accepted) x (columns s - 2) i (omega (arith, m)) (omega (arith, m))
 
-  in-row : (y j : ℕ) → suc j < rows s → lineY s j ≤ y → y < lineY s (suc j) → rowAt s y ≡ j
-  unfolding rowAt
-  in-row y j m = along-in (sound s accepted .risingY) y (rows s - 2) j (omega (arith, m)) (omega (arith, m))
+  in-row : (x y j : ℕ) → suc j < rows s → lineY s j ≤ y → y < lineY s (suc j) → place s x y .row ≡ j
+  unfolding rowAt place
+  in-row x y j m = along-in (y-rising s accepted) y (rows s - 2) j (omega (arith, m)) (omega (arith, m))
 
-  last-column : suc (suc (columnAt s (lineX s (columns s - 1)))) ≡ columns s
-  unfolding columnAt
-  last-column = axis-end (sound s accepted .risingX) (sound s accepted .fewColumns)
+  last-column : (y : ℕ) → suc (suc (place s (lineX s (columns s - 1)) y .column)) ≡ columns s
+  unfolding columnAt place
+  last-column y = axis-end (x-rising s accepted) (sound s accepted .fewColumns)
 
-  last-row : suc (suc (rowAt s (lineY s (rows s - 1)))) ≡ rows s
-  unfolding rowAt
-  last-row = axis-end (sound s accepted .risingY) (sound s accepted .fewRows)
-
-means : (s : List ℕ) (p : Place) (x y : ℕ) → T (touches s p x y) ↔ (HasCell s (p .column) (p .row) × (lineX s (p .column) + p .a ≡ x) × (x ≤ lineX s (suc (p .column)))
-    × (lineY s (p .row) + p .b ≡ y) × (y ≤ lineY s (suc (p .row))) × T (triangle (p .piece) (pointAt s p)))
-means s p x y = (
-  λ t. let f = touched s p x y t in (record { column = f .column; row = f .row }, f .across, f .toRight, f .down, f .toBottom, f .piece),
-  λ (has, across, toRight, down, toBottom, piece). touch s p x y (record {
-    column = has .column;
-    across = across;
-    toRight = toRight;
-    row = has .row;
-    down = down;
-    toBottom = toBottom;
-    piece = piece;
-  }),
-)
+  last-row : (x : ℕ) → suc (suc (place s x (lineY s (rows s - 1)) .row)) ≡ rows s
+  unfolding rowAt place
+  last-row x = axis-end (y-rising s accepted) (sound s accepted .fewRows)
 
 pub place-laws : PlaceLaws
 place-laws = record {
-  means = means;
+  means = λ s p x y. (touched s p x y, touch s p x y);
   there = λ s x y a i. touch s (place s x y) x y (there s a x y i);
   inside = λ s p x y a t. inside s a (touched s p x y t);
-  inColumn = λ s x i a. in-column s a x i;
-  inRow = λ s y j a. in-row s a y j;
-  lastColumn = last-column;
-  lastRow = last-row;
+  inColumn = λ s x y i a. in-column s a x y i;
+  inRow = λ s x y j a. in-row s a x y j;
+  lastColumn = λ s y a. last-column s a y;
+  lastRow = λ s x a. last-row s a x;
   rightmost = λ s p x y a t. rightmost s a (touched s p x y t);
   lowermost = λ s p x y a t. lowermost s a (touched s p x y t);
   lowest = λ s p x y a t. lowest s a (touched s p x y t);

@@ -18,14 +18,14 @@ use Rattle.readings.proofs.Rounded.{rounded-≈}
 use Rattle.corners.specs.Held.{cell}
 use Rattle.sheet.specs.Format.{columns, rows, lineX, lineY}
 use Rattle.sheet.specs.Refusals.{Accepted}
-use Rattle.surface.specs.Place.{cellOf, HasCell, Place, pointAt, columnAt, rowAt, place, seen, touches}
+use Rattle.surface.specs.Place.{cellOf, Place, pointAt, columnAt, rowAt, place, seen, touches}
 use Rattle.surface.specs.Surface.{nodesOf, setOf, jetAt, levelAt, tiltXAt, tiltYAt, level, tiltX, tiltY}
-use Rattle.surface.specs.Touching.{Touching}
+use Rattle.surface.specs.Touching.{Touches, Touching}
 use Rattle.surface.proofs.Along.{along-at}
 use Rattle.surface.proofs.Cells.{x-rising, y-rising, width-back, height-back}
 use Rattle.surface.proofs.Sets.{beside, beneath}
 use Rattle.surface.proofs.EdgePoints.{View, from-piece, over-edge, at-end, at-start}
-use Rattle.surface.proofs.Places.{Touches, touched, is-seen, there, inside}
+use Rattle.surface.proofs.Places.{touched, is-seen, there, inside}
 use Rattle.surface.proofs.Worked.{bends}
 
 -- ---- the places of a pixel
@@ -38,9 +38,6 @@ module _ (s : List ℕ) (accepted : Accepted s) (x y : ℕ) where
   abbrev at : ℕ → ℕ → Piece → Jet ℚ
   at i j k = jetAt s (seen s i j k x y)
 
-  has : {i j : ℕ} {k : Piece} → From i j k → HasCell s i j
-  has t = record { column = t .column; row = t .row }
-
   view : {i j : ℕ} {k : Piece} → From i j k → View
   unfolding setOf
   view {i} {j} {k} t = record {
@@ -48,8 +45,8 @@ module _ (s : List ℕ) (accepted : Accepted s) (x y : ℕ) where
     S = setOf s i j;
     smooth = existence .meetsNodes (cellOf s i j) (nodesOf s i j) .smooth;
     P = pointAt s (seen s i j k x y);
-    inCell = bounds .pixels (cellOf s i j) (x - lineX s i) (y - lineY s j) (omega (arith, width-back s accepted i j (has t), t .toRight))
-        (omega (arith, height-back s accepted i j (has t), t .toBottom)) .inCell;
+    inCell = bounds .pixels (cellOf s i j) (x - lineX s i) (y - lineY s j) (omega (arith, width-back s accepted i j (t .has), t .toRight))
+        (omega (arith, height-back s accepted i j (t .has), t .toBottom)) .inCell;
     piece = k;
     holds = t .piece;
   }
@@ -65,7 +62,7 @@ module _ (s : List ℕ) (accepted : Accepted s) (x y : ℕ) where
   one-right {i} {j} {k} {l} e t u =
       let b = pointAt s (seen s i j k x y) .s in
       over-edge (view t) (view u) right left b (beside s i j b)
-      (record { rs = at-end _ (omega (arith, e, width-back s accepted i j (has t))); ss = ≈-refl b }) (record { rs = at-start _ (omega (arith, e)); ss = ≈-refl b })
+      (record { rs = at-end _ (omega (arith, e, width-back s accepted i j (t .has))); ss = ≈-refl b }) (record { rs = at-start _ (omega (arith, e)); ss = ≈-refl b })
 
   -- from a cell and the one below
   one-down : {i j : ℕ} {k l : Piece} → y ≡ lineY s (suc j) → From i j k → From i (suc j) l → at i j k ≋ at i (suc j) l
@@ -73,20 +70,20 @@ module _ (s : List ℕ) (accepted : Accepted s) (x y : ℕ) where
   one-down {i} {j} {k} {l} e t u =
       let a = pointAt s (seen s i j k x y) .r in
       over-edge (view t) (view u) bottom top a (beneath s i j a)
-      (record { rs = ≈-refl a; ss = at-end _ (omega (arith, e, height-back s accepted i j (has t))) }) (record { rs = ≈-refl a; ss = at-start _ (omega (arith, e)) })
+      (record { rs = ≈-refl a; ss = at-end _ (omega (arith, e, height-back s accepted i j (t .has))) }) (record { rs = ≈-refl a; ss = at-start _ (omega (arith, e)) })
 
   -- from the cell of the same row in the column of the pixel's place
   along-row : {i j : ℕ} {k l : Piece} → From i j k → From (columnAt s x) j l → at i j k ≋ at (columnAt s x) j l
   unfolding columnAt
   along-row {i} {j} {k} {l} t =
-      along-at (x-rising s accepted) x (columns s - 2) i (omega (arith, t .column)) (omega (arith, t .column)) (omega (arith, t .across)) (t .toRight)
+      along-at (x-rising s accepted) x (columns s - 2) i (omega (arith, t .has .column)) (omega (arith, t .has .column)) (omega (arith, t .across)) (t .toRight)
       (λ c. From c j l → at i j k ≋ at c j l) (λ u. in-cell t u) (λ e u. one-right e t u)
 
   -- from the cell of the same column in the row of the pixel's place
   along-column : {i j : ℕ} {k l : Piece} → From i j k → From i (rowAt s y) l → at i j k ≋ at i (rowAt s y) l
   unfolding rowAt
   along-column {i} {j} {k} {l} t =
-      along-at (y-rising s accepted) y (rows s - 2) j (omega (arith, t .row)) (omega (arith, t .row)) (omega (arith, t .down)) (t .toBottom)
+      along-at (y-rising s accepted) y (rows s - 2) j (omega (arith, t .has .row)) (omega (arith, t .has .row)) (omega (arith, t .down)) (t .toBottom)
       (λ c. From i c l → at i j k ≋ at i c l) (λ u. in-cell t u) (λ e u. one-down e t u)
 
   -- from every place: first along the row, then along the column
@@ -96,10 +93,9 @@ module _ (s : List ℕ) (accepted : Accepted s) (x y : ℕ) where
       let c = columnAt s x in let own = there s accepted x y (inside s accepted t) in
       let l = pieceAt (pointAt s (seen s c j k x y)) in
       let between : From c j l = record {
-        column = own .column;
+        has = record { column = own .has .column; row = t .has .row };
         across = own .across;
         toRight = own .toRight;
-        row = t .row;
         down = t .down;
         toBottom = t .toBottom;
         piece = covering .covers (pointAt s (seen s c j k x y));

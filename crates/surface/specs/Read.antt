@@ -5,10 +5,11 @@ use mathlib.Core.Bool.{cond}
 use lib.Dec.{eqb}
 use lib.IntN.{ℤ, pos}
 use Rattle.sibson.specs.Fraction.{ℚ, _·ℚ_}
+use Rattle.sibson.specs.Cubic.{jet, bend}
 use Rattle.answers.specs.Answers.{Outcome, answered, refused}
 use Rattle.sheet.specs.Refusals.{readingRefusal}
-use Rattle.surface.specs.Place.{place}
-use Rattle.surface.specs.Surface.{jetAt, bendAt, level, tiltX, tiltY, bendXX, bendXY, bendYY}
+use Rattle.surface.specs.Place.{cellAt, pointAt, place}
+use Rattle.surface.specs.Surface.{cubicAt, level, tiltX, tiltY, bendXX, bendXY, bendYY}
 
 -- the whole numbers of each kind: 0 is the level, 1 the tilt, 2 the bend; a kind above 2 is refused
 unfoldable pub numbers : List ℕ → ℕ → ℕ → ℕ → List ℤ
@@ -19,9 +20,9 @@ numbers s x y (suc (suc kind)) = bendXX s x y ∷ bendXY s x y ∷ bendYY s x y 
 -- the exact values that they are rounded from: of the cubic on the pixel's cell and piece the height in grains, the slopes in grains per pixel, the second
 -- derivatives in 1/64 grain per pixel per pixel
 unfoldable pub exact : List ℕ → ℕ → ℕ → ℕ → List ℚ
-exact s x y zero = jetAt s (place s x y) .height ∷ []
-exact s x y (suc zero) = jetAt s (place s x y) .xSlope ∷ jetAt s (place s x y) .ySlope ∷ []
-exact s x y (suc (suc kind)) = let b = bendAt s (place s x y) in pos 64 ·ℚ b .xx ∷ pos 64 ·ℚ b .xy ∷ pos 64 ·ℚ b .yy ∷ []
+exact s x y zero = let p = place s x y in jet (cellAt s p) (cubicAt s p) (pointAt s p) .height ∷ []
+exact s x y (suc zero) = let p = place s x y in let j = jet (cellAt s p) (cubicAt s p) (pointAt s p) in j .xSlope ∷ j .ySlope ∷ []
+exact s x y (suc (suc kind)) = let p = place s x y in let b = bend (cellAt s p) (cubicAt s p) (pointAt s p) in pos 64 ·ℚ b .xx ∷ pos 64 ·ℚ b .xy ∷ pos 64 ·ℚ b .yy ∷ []
 
 -- the number of the refusal, or 0 and the whole numbers over the kind's divisor
 unfoldable pub read : List ℕ → ℕ → ℕ → ℕ → Outcome

@@ -3,7 +3,7 @@ use Prim.Native.Nat.{ℕ, suc}
 use mathlib.Core.List.{List}
 use lib.IntN.{ℤ}
 use Rattle.sibson.specs.Fraction.{ℚ}
-use Rattle.sibson.specs.Cubic.{Cubic, Jet, jet, Bend, bend}
+use Rattle.sibson.specs.Cubic.{Cubic, Jet, jet}
 use Rattle.sibson.specs.Piece.{FourCubics, leftTop, rightTop, leftBottom, rightBottom}
 use Rattle.sibson.specs.Element.{Nodes, element}
 use Rattle.readings.specs.Reading as reading
@@ -31,15 +31,9 @@ setOf s i j = element (cellOf s i j) (nodesOf s i j)
 abbrev pub cubicAt : List ℕ → Place → Cubic
 cubicAt s p = setOf s (p .column) (p .row) (p .piece)
 
--- ---- exact values at a place
-
--- the height and the slopes, in grains and grains per pixel
+-- its height and slopes there, in grains and grains per pixel
 unfoldable pub jetAt : List ℕ → Place → Jet ℚ
 jetAt s p = jet (cellAt s p) (cubicAt s p) (pointAt s p)
-
--- the second derivatives, in grains per pixel per pixel
-unfoldable pub bendAt : List ℕ → Place → Bend
-bendAt s p = bend (cellAt s p) (cubicAt s p) (pointAt s p)
 
 -- ---- readings at a place: the exact values rounded
 

@@ -6,8 +6,9 @@ use Rattle.readings.specs.Reading as reading
 use Rattle.sheet.proofs.Chains.{HasPixel, reading-held}
 use Rattle.answers.specs.Answers.{answered, Small}
 use Rattle.surface.specs.Surface.{levelAt, tiltXAt, tiltYAt, bendXXAt, bendXYAt, bendYYAt, level, tiltX, tiltY, bendXX, bendXY, bendYY}
+use Rattle.surface.specs.Read.{numbers}
 use Rattle.surface.proofs.Sizes.{small-level, small-tilts, small-bends}
-use Rattle.pixels.proofs.ByKind.{kind-level, kind-tilt, kind-bend}
+use Rattle.pixels.proofs.ByKind.{kind-bend}
 use Rattle.pixels.proofs.Cubics.{Evaluated, same, found-inside, found-cell, numbers-in, evaluated}
 use Rattle.pixels.proofs.reading.Statement.{statement}
 use Rattle.pixels.proofs.reading.Tie as tie
@@ -41,9 +42,9 @@ level-requires c κs = let d = c .before in let e = evaluates d in let h = held 
     (e .sized, e .inside, subst⁻¹ Small (same e reading.level) (small-level _ _ _ (h .accepted) (h .inside)))
 
 returns : tie.Need-returns
-unfolding level levelAt
+unfolding level levelAt numbers
 returns c = let i = c .before in let e = evaluates (i .before) in
-    c .level .ensures ∙ ap (λ z. answered 0 (z ∷ [])) (same e reading.level) ∙ kind-level _ _ _ _ (i .if1 .taken)
+    rw (i .if1 .taken) (c .level .ensures ∙ ap (λ z. answered 0 (z ∷ [])) (same e reading.level))
 
 tilt-requires : tie.Need-tilt-requires
 unfolding tiltX tiltY tiltXAt tiltYAt
@@ -52,9 +53,9 @@ tilt-requires c κs = let d = c .before .before in let e = evaluates d in let h 
     (e .sized, e .inside, subst⁻¹ Small (same e reading.tiltX) (t .0), subst⁻¹ Small (same e reading.tiltY) (t .1))
 
 returns-2 : tie.Need-returns-2
-unfolding tiltX tiltY tiltXAt tiltYAt
+unfolding tiltX tiltY tiltXAt tiltYAt numbers
 returns-2 c = let i = c .before in let e = evaluates (i .before .before) in
-    c .tilt .ensures ∙ ap₂ (λ z w. answered 1 (z ∷ w ∷ [])) (same e reading.tiltX) (same e reading.tiltY) ∙ kind-tilt _ _ _ _ (i .if2 .taken)
+    rw (i .if2 .taken) (c .tilt .ensures ∙ ap₂ (λ z w. answered 1 (z ∷ w ∷ [])) (same e reading.tiltX) (same e reading.tiltY))
 
 bend-requires : tie.Need-bend-requires
 unfolding bendXX bendXY bendYY bendXXAt bendXYAt bendYYAt
