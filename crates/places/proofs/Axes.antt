@@ -7,13 +7,13 @@ use native.Mathlib.Omega.{arith}
 use lib.Dec.{ltb}
 use Rattle.sheet.specs.Format.{columns, rows, xLinesOffset, yLinesOffset, lineX, lineY}
 use Rattle.sheet.specs.Refusals.{outside, Accepted}
-use Rattle.sheet.specs.WellFormed.{Inside, WellFormed}
-use Rattle.sheet.proofs.WellFormed.{accepted-laws}
+use Rattle.sheet.specs.WellFormed.{Inside}
 use Rattle.sibson.specs.Piece.{pieceAt}
 use Rattle.evaluation.specs.Pixels as pixels
 use Rattle.evaluation.specs.Pixels.{pointOf}
 use Rattle.evaluation.specs.declared.Pixel.{Pixel}
 use Rattle.surface.specs.Place.{cellOf, columnAt, rowAt, place}
+use Rattle.surface.proofs.Cells.{sound}
 use Rattle.places.specs.declared.OnAxis.{OnAxis}
 use Rattle.places.specs.Found.{lineFrom, Axis, Between, offAxis, onAxis, holding}
 use Rattle.pieces.specs.Parts.{named}
@@ -40,14 +40,11 @@ unfolding onAxis columnAt rowAt cellOf place holding
 place-is s x y = refl
 
 module _ (s : List ℕ) (accepted : Accepted s) where
-  well : WellFormed s
-  well = accepted-laws .sound s accepted
-
   pub x-axis : Axis s xLinesOffset (columns s)
-  x-axis = record { few = well .fewColumns; many = well .manyColumns; there = omega (arith, well .whole); rising = well .risingX }
+  x-axis = let w = sound s accepted in record { few = w .fewColumns; many = w .manyColumns; there = omega (arith, w .whole); rising = w .risingX }
 
   pub y-axis : Axis s (yLinesOffset s) (rows s)
-  y-axis = record { few = well .fewRows; many = well .manyRows; there = omega (arith, well .whole); rising = well .risingY }
+  y-axis = let w = sound s accepted in record { few = w .fewRows; many = w .manyRows; there = omega (arith, w .whole); rising = w .risingY }
 
   module _ (x y : ℕ) (inside : Inside s x y) where
     pub x-between : Between (lineFrom s xLinesOffset) (columns s) x

@@ -29,7 +29,7 @@ pub record Between (line : ℕ → ℕ) (lines position : ℕ) : Type 0 where
   pub first : line 0 ≤ position
   pub last : position ≤ line (lines - 1)
 
--- or before the first or beyond the last
+-- a position before the first line or beyond the last
 unfoldable pub offAxis : (ℕ → ℕ) → ℕ → ℕ → Bool
 offAxis line lines position = ltb position (line 0) || ltb (line (lines - 1)) position
 

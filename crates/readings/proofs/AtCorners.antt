@@ -37,7 +37,7 @@ has-there C S j h k c P t i = let e : P ≈ₚ at c = record { rs = i .across; s
 at-corner : (C : Cell) (n : CornerNumbers) (k : Piece) (c : Corner) (P : Point) → T (triangle k P) → IsAt c P → jet C (sibson n k) P ≋ perPixel C (n c)
 at-corner C n = has-there C (sibson n) (λ c. perPixel C (n c)) (numbers C n)
 
-at-node : (C : Cell) (m : Nodes) (k : Piece) (c : Corner) (P : Point) → T (triangle k P) → IsAt c P → jet C (element C m k) P ≋ wholes (m c)
+pub at-node : (C : Cell) (m : Nodes) (k : Piece) (c : Corner) (P : Point) → T (triangle k P) → IsAt c P → jet C (element C m k) P ≋ wholes (m c)
 at-node C m = has-there C (element C m) (λ c. wholes (m c)) (nodes C m)
 
 -- n/n

@@ -1,12 +1,11 @@
 -- The cell along an axis that a position belongs to: it is the last that starts at or before it, and lines that rise have only one such. Assumes nothing.
 use Prim.Native.Nat.{ℕ, zero, suc, _-_, _≤_, _<_}
-use mathlib.Core.Path.{_≡_, refl, subst, subst⁻¹}
-use mathlib.Core.Bool.{Bool, true, false, cond}
+use mathlib.Core.Path.{_≡_, subst, subst⁻¹}
 use native.Mathlib.Omega.{arith}
 use native.Mathlib.Nat.{le-antisymm}
 use native.Mathlib.Decide.{ℕ-discrete, decLt}
-use lib.Dec.{leb}
-use borrow.Author.Tests.{leb-true, leb-false}
+use lib.Dec.{leb, leb→le, nleb→lt}
+use Rattle.integers.proofs.Order.{cond-ind}
 use Rattle.sheet.specs.WellFormed.{Rising}
 use Rattle.surface.specs.Place.{cellAlong}
 
@@ -15,11 +14,10 @@ module _ (line : ℕ → ℕ) (position : ℕ) where
   along-step : (k : ℕ) (Q : ℕ → Type 0) → (line (suc k) ≤ position → Q (suc k)) → (position < line (suc k) → Q (cellAlong line k position)) →
       Q (cellAlong line (suc k) position)
   unfolding cellAlong
-  along-step k Q here before = by (leb (line (suc k)) position) refl
-    where
-      by : (b : Bool) → leb (line (suc k)) position ≡ b → Q (cond b (suc k) (cellAlong line k position))
-      by true e = here (leb-true _ _ e)
-      by false e = before (leb-false _ _ e)
+  along-step k Q here before =
+      cond-ind (leb (line (suc k)) position) (suc k) (cellAlong line k position) Q
+      (λ t. here (leb→le _ _ t))
+      (λ t. before (nleb→lt _ _ t))
 
   along-least : (k : ℕ) → cellAlong line k position ≤ k
   unfolding cellAlong

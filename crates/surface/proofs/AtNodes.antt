@@ -1,6 +1,6 @@
 -- At a node's pixel the level is the node's height in grains, and the tilt its slopes. Assumes nothing.
 use Prim.Native.Nat.{ℕ, suc, _+_, _-_, _≤_, _<_}
-use mathlib.Core.Path.{_≡_, refl, _∙_, ap, ap₂}
+use mathlib.Core.Path.{_≡_, refl, _∙_, ap, ap₂, subst}
 use mathlib.Core.Logic.{_⊎_, inl, inr}
 use mathlib.Core.List.{List, [], _∷_}
 use native.Mathlib.Omega.{arith}
@@ -8,10 +8,13 @@ use native.Mathlib.Decide.{decLt}
 use lib.Dec.{T, lit≤}
 use lib.IntN.{_*ℤ_}
 use Rattle.sibson.specs.Piece.{triangle, Corner, leftTop, rightTop, leftBottom, rightBottom}
-use Rattle.sibson.specs.Element.{Nodes}
+use Rattle.sibson.specs.Cubic.{jet, _≋_}
+use Rattle.sibson.specs.Theorems.{wholes}
 use Rattle.sibson.proofs.Covers.{covering}
 use Rattle.readings.specs.Bounds.{IsAt}
-use Rattle.readings.proofs.AtCorners.{at-corners}
+use Rattle.readings.specs.Reading as reading
+use Rattle.readings.proofs.AtCorners.{at-node, at-corners}
+use Rattle.readings.proofs.Rounded.{rounded-whole}
 use Rattle.sheet.specs.Format.{columns, rows, lineX, lineY, Node, grainsPerStep, heightAt, slopeXAt, slopeYAt}
 use Rattle.sheet.specs.Refusals.{settingRefusal, Accepted}
 use Rattle.sheet.specs.Calls.{withNode}
@@ -20,7 +23,7 @@ use Rattle.sheet.proofs.Chains.{HasNode, setting-held}
 use Rattle.sheet.proofs.Setting.{setting-laws}
 use Rattle.answers.specs.Answers.{answered}
 use Rattle.surface.specs.Place.{Place, cellAt, pointAt, columnAt, rowAt, place}
-use Rattle.surface.specs.Surface.{nodeNumbers, nodesOf, setOf, levelAt, tiltXAt, tiltYAt, level, tiltX, tiltY}
+use Rattle.surface.specs.Surface.{nodeNumbers, nodesOf, setOf, cubicAt, jetAt, levelAt, tiltXAt, tiltYAt, level, tiltX, tiltY}
 use Rattle.surface.specs.Read.{numbers, read}
 use Rattle.surface.specs.Theorems.{AtNodes}
 use Rattle.surface.proofs.Cells.{x-rising, y-rising, width-back, height-back}
@@ -70,9 +73,6 @@ module _ (s : List ℕ) (i j : ℕ) (accepted : Accepted s) (l : i < columns s) 
   abbrev p : Place
   p = place s x y
 
-  abbrev m : Nodes
-  m = nodesOf s (p .column) (p .row)
-
   node-place : AtCorner s i j p
   unfolding place
   node-place =
@@ -83,23 +83,25 @@ module _ (s : List ℕ) (i j : ℕ) (accepted : Accepted s) (l : i < columns s) 
       (ends (lineY s) k (λ h. place-laws .inRow s x y j accepted h (omega arith) (y-rising s accepted .rises j h))
       (λ e. rw e (place-laws .lastRow s x accepted)) (height-back s accepted column row cell))
 
-  node-level : level s x y ≡ heightAt s i j
-  unfolding nodeNumbers setOf level levelAt
-  node-level =
+  -- height and slopes there are exactly the node's
+  node-jet : jetAt s p ≋ wholes (nodeNumbers s i j)
+  unfolding setOf jetAt
+  node-jet =
       let c = node-place in
-      at-corners .nodeLevels (cellAt s p) m (p .piece) (c .corner) (pointAt s p) (in-piece s x y) (c .there) ∙ ap (λ n. n .height) (c .node)
+      subst (λ n. jet (cellAt s p) (cubicAt s p) (pointAt s p) ≋ wholes n) (c .node)
+      (at-node (cellAt s p) (nodesOf s (p .column) (p .row)) (p .piece) (c .corner) (pointAt s p) (in-piece s x y) (c .there))
+
+  node-level : level s x y ≡ heightAt s i j
+  unfolding wholes nodeNumbers jetAt level levelAt reading.level
+  node-level = rounded-whole (node-jet .heights)
 
   node-tilt-x : tiltX s x y ≡ slopeXAt s i j
-  unfolding nodeNumbers setOf tiltX tiltXAt
-  node-tilt-x =
-      let c = node-place in
-      at-corners .nodeTiltsX (cellAt s p) m (p .piece) (c .corner) (pointAt s p) (in-piece s x y) (c .there) ∙ ap (λ n. n .xSlope) (c .node)
+  unfolding wholes nodeNumbers jetAt tiltX tiltXAt reading.tiltX
+  node-tilt-x = rounded-whole (node-jet .xSlopes)
 
   node-tilt-y : tiltY s x y ≡ slopeYAt s i j
-  unfolding nodeNumbers setOf tiltY tiltYAt
-  node-tilt-y =
-      let c = node-place in
-      at-corners .nodeTiltsY (cellAt s p) m (p .piece) (c .corner) (pointAt s p) (in-piece s x y) (c .there) ∙ ap (λ n. n .ySlope) (c .node)
+  unfolding wholes nodeNumbers jetAt tiltY tiltYAt reading.tiltY
+  node-tilt-y = rounded-whole (node-jet .ySlopes)
 
 -- ---- a node that is set
 

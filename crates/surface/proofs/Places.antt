@@ -130,31 +130,16 @@ module _ (s : List ℕ) (accepted : Accepted s) where
     unfolding place
     lowest e f = rw (← e, ← f, offset-a t, offset-b t) (covering .lowest (pointAt s p) (p .piece) (t .piece))
 
-  in-column : (x y i : ℕ) → suc i < columns s → lineX s i ≤ x → x < lineX s (suc i) → place s x y .column ≡ i
-  unfolding columnAt place
-  in-column x y i m = along-in (x-rising s accepted) x (columns s - 2) i (omega (arith, m)) (omega (arith, m))
-
-  in-row : (x y j : ℕ) → suc j < rows s → lineY s j ≤ y → y < lineY s (suc j) → place s x y .row ≡ j
-  unfolding rowAt place
-  in-row x y j m = along-in (y-rising s accepted) y (rows s - 2) j (omega (arith, m)) (omega (arith, m))
-
-  last-column : (y : ℕ) → suc (suc (place s (lineX s (columns s - 1)) y .column)) ≡ columns s
-  unfolding columnAt place
-  last-column y = axis-end (x-rising s accepted) (sound s accepted .fewColumns)
-
-  last-row : (x : ℕ) → suc (suc (place s x (lineY s (rows s - 1)) .row)) ≡ rows s
-  unfolding rowAt place
-  last-row x = axis-end (y-rising s accepted) (sound s accepted .fewRows)
-
 pub place-laws : PlaceLaws
+unfolding columnAt rowAt place
 place-laws = record {
   means = λ s p x y. (touched s p x y, touch s p x y);
   there = λ s x y a i. touch s (place s x y) x y (there s a x y i);
   inside = λ s p x y a t. inside s a (touched s p x y t);
-  inColumn = λ s x y i a. in-column s a x y i;
-  inRow = λ s x y j a. in-row s a x y j;
-  lastColumn = λ s y a. last-column s a y;
-  lastRow = λ s x a. last-row s a x;
+  inColumn = λ s x y i a m. along-in (x-rising s a) x (columns s - 2) i (omega (arith, m)) (omega (arith, m));
+  inRow = λ s x y j a m. along-in (y-rising s a) y (rows s - 2) j (omega (arith, m)) (omega (arith, m));
+  lastColumn = λ s y a. axis-end (x-rising s a) (sound s a .fewColumns);
+  lastRow = λ s x a. axis-end (y-rising s a) (sound s a .fewRows);
   rightmost = λ s p x y a t. rightmost s a (touched s p x y t);
   lowermost = λ s p x y a t. lowermost s a (touched s p x y t);
   lowest = λ s p x y a t. lowest s a (touched s p x y t);

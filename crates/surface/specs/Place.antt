@@ -29,10 +29,11 @@ pub record Place : Type 0 where
   pub b : ℕ
   pub piece : Piece
 
+-- its cell
 abbrev pub cellAt : List ℕ → Place → Cell
 cellAt s p = cellOf s (p .column) (p .row)
 
--- in the cell's own r and s
+-- its point, in the cell's own r and s
 abbrev pub pointAt : List ℕ → Place → Point
 pointAt s p = pixel (cellAt s p) (p .a) (p .b)
 
@@ -43,13 +44,14 @@ unfoldable pub cellAlong : (ℕ → ℕ) → ℕ → ℕ → ℕ
 cellAlong line zero position = zero
 cellAlong line (suc k) position = cond (leb (line (suc k)) position) (suc k) (cellAlong line k position)
 
+-- the column and the row of a pixel's cell
 unfoldable pub columnAt : List ℕ → ℕ → ℕ
 columnAt s x = cellAlong (lineX s) (columns s - 2) x
 
 unfoldable pub rowAt : List ℕ → ℕ → ℕ
 rowAt s y = cellAlong (lineY s) (rows s - 2) y
 
--- on a diagonal `pieceAt` takes the lowest number
+-- cell, offsets and piece; on a diagonal `pieceAt` takes the lowest number
 unfoldable pub place : List ℕ → ℕ → ℕ → Place
 place s x y =
     let i = columnAt s x in let j = rowAt s y in let a = x - lineX s i in let b = y - lineY s j in
