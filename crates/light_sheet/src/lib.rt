@@ -1,10 +1,12 @@
 // The calls of a light sheet, for every input: no call has a `requires`, and each outcome is an equation over what the call is given.
 ghost use mathlib.Core.Path.{_≡_};
+ghost use lib.ListN.{length};
 ghost use Rattle.sheet.specs.Format.{node};
-ghost use Rattle.sheet.specs.Refusals.{checkRefusal, lookupRefusal, settingRefusal};
+ghost use Rattle.sheet.specs.Refusals.{checkRefusal, lookupRefusal, settingRefusal, runRefusal};
 ghost use Rattle.sheet.specs.Calls.{lookedUp, Part, withNode};
 ghost use Rattle.answers.specs.Answers.{outcome};
 ghost use Rattle.surface.specs.Read.{read};
+ghost use Rattle.surface.specs.Run.{filled};
 use answers::Answer;
 
 // Checks a sheet: 0 where it is accepted, else the number of the first of the conditions 1 to 6 that holds.
@@ -50,4 +52,13 @@ pub fn read(sheet: &[u8], x: u32, y: u32, kind: u32) -> Answer
     ensures { λ r. ⌜ outcome r ≡ read (now (sheet .entry)) x y kind ⌝ }
 {
     pixels::read(sheet, x, y, kind)
+}
+
+// Fills the lent row with the levels at the pixel (x, y) and at those to its right, one for each place, in grains, and answers 0; or, refused (1 to 6, 7, 8),
+// answers the number and leaves the row as it was.
+pub fn fill_run(sheet: &[u8], x: u32, y: u32, levels: &mut [i32]) -> u32
+    ensures answer { λ r. ⌜ r ≡ runRefusal (now (sheet .entry)) x y (length (now (levels .entry))) ⌝ }
+    ensures levels { λ r. ⌜ now (levels .exit) ≡ filled (now (sheet .entry)) x y (now (levels .entry)) ⌝ }
+{
+    filling::fill_run(sheet, x, y, levels)
 }

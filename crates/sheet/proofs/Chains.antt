@@ -1,5 +1,5 @@
 -- What the refusals compute to: a chain of tests, and each call's from the checks that it shares with others. Assumes nothing.
-use Prim.Native.Nat.{ℕ, suc, _≤_, _<_}
+use Prim.Native.Nat.{ℕ, suc, _+_, _-_, _≤_, _<_}
 use mathlib.Core.Path.{_≡_, refl, sym, _∙_, ap}
 use mathlib.Core.List.{List, [], _∷_, _++_}
 use mathlib.Core.Bool.{Bool, true, false, cond, _&&_, or-false}
@@ -8,7 +8,7 @@ use lib.Dec.{T, eqb, ltb, ltb→lt}
 use borrow.Author.Tests.{eqb-true, eqb-false, eq-eqb, ne-eqb, not-false}
 use Rattle.integers.proofs.Deduce.{both}
 use Rattle.sheet.specs.Format.{columns, rows, Node, nodeIn}
-use Rattle.sheet.specs.Refusals.{Input, Rule, rule, otherMark, otherVersion, otherCounts, otherLength, wrongLines, wrongNodes, outside, offMesh, otherKind, noNode, wrongNumbers, table, first, member, part, sheetChecks, lookupChecks, zeroNode, atPixel, atNode, checkRefusal, lookupRefusal, settingRefusal, readingRefusal, Accepted}
+use Rattle.sheet.specs.Refusals.{Input, Rule, rule, otherMark, otherVersion, otherCounts, otherLength, wrongLines, wrongNodes, outside, offMesh, emptyRun, otherKind, noNode, wrongNumbers, table, first, member, part, sheetChecks, lookupChecks, zeroNode, atPixel, atNode, checkRefusal, lookupRefusal, settingRefusal, readingRefusal, runRefusal, Accepted}
 use Rattle.sheet.specs.RefusalLaws.{Each}
 use Rattle.sheet.specs.WellFormed.{Inside}
 use Rattle.sheet.proofs.Conditions.{condition-laws}
@@ -74,15 +74,24 @@ or-zero n k e = by (eqb n 0) refl
     by true q = (eqb-true n 0 q, sym (zero-or n k (eqb-true n 0 q)) ∙ e)
     by false q = absurd (eqb-false n 0 q (sym (refused-or n k (eqb-false n 0 q)) ∙ e))
 
--- ---- looking up is refused as checking is, then by 10; setting as looking up, then by 11; a reading as checking is, then by 7 and 9
+-- ---- looking up is refused as checking is, then by 10; setting as looking up, then by 11; a reading as checking is, then by 7 and 9; a run by 7 and 8
+
+-- further checks behind those of the sheet
+sheet-append : (more : List Rule) (u : Input) → first (part sheetChecks table ++ more) u ≡ orElse (checkRefusal (u .sheet)) (first more u)
+unfolding checkRefusal table first member part
+sheet-append more u = first-append (part sheetChecks table) more u (numbered-part sheetChecks table numbered)
 
 pub lookup-is : (s : List ℕ) (i j : ℕ) → lookupRefusal s i j ≡ orElse (checkRefusal s) (cond (noNode s i j) 10 0)
-unfolding lookupRefusal checkRefusal table first member part
-lookup-is s i j = first-append (part sheetChecks table) (rule 10 (λ u. noNode (u .sheet) (u .column) (u .row)) ∷ []) (atNode s i j zeroNode) (numbered-part sheetChecks table numbered)
+unfolding lookupRefusal table first member part
+lookup-is s i j = sheet-append (rule 10 (λ u. noNode (u .sheet) (u .column) (u .row)) ∷ []) (atNode s i j zeroNode)
 
 pub setting-is : (s : List ℕ) (i j : ℕ) (v : Node) → settingRefusal s i j v ≡ orElse (lookupRefusal s i j) (cond (wrongNumbers v) 11 0)
 unfolding settingRefusal lookupRefusal table first member part
 setting-is s i j v = first-append (part lookupChecks table) (rule 11 (λ u. wrongNumbers (u .numbers)) ∷ []) (atNode s i j v) (numbered-part lookupChecks table numbered)
+
+-- 7, of a reading and of a run
+offMeshRule : Rule
+offMeshRule = rule 7 (λ u. offMesh (u .sheet) (u .x) (u .y) (u .count))
 
 -- a reading has no run, so 7 tests its pixel alone
 off-mesh-is : (s : List ℕ) (x y : ℕ) → offMesh s x y 0 ≡ outside s x y
@@ -90,11 +99,14 @@ unfolding offMesh
 off-mesh-is s x y = or-false (outside s x y)
 
 pub reading-is : (s : List ℕ) (x y kind : ℕ) → readingRefusal s x y kind ≡ orElse (checkRefusal s) (cond (outside s x y) 7 (cond (otherKind kind) 9 0))
-unfolding readingRefusal checkRefusal table first member part
+unfolding readingRefusal table first member part offMeshRule
 reading-is s x y kind =
-    first-append (part sheetChecks table) (rule 7 (λ u. offMesh (u .sheet) (u .x) (u .y) (u .count)) ∷ rule 9 (λ u. otherKind (u .kind)) ∷ [])
-    (atPixel s x y 0 kind) (numbered-part sheetChecks table numbered)
+    sheet-append (offMeshRule ∷ rule 9 (λ u. otherKind (u .kind)) ∷ []) (atPixel s x y 0 kind)
     ∙ ap (λ b. orElse (checkRefusal s) (cond b 7 (cond (otherKind kind) 9 0))) (off-mesh-is s x y)
+
+pub run-is : (s : List ℕ) (x y count : ℕ) → runRefusal s x y count ≡ orElse (checkRefusal s) (cond (offMesh s x y count) 7 (cond (emptyRun count) 8 0))
+unfolding runRefusal table first member part offMeshRule
+run-is s x y count = sheet-append (offMeshRule ∷ rule 8 (λ u. emptyRun (u .count)) ∷ []) (atPixel s x y count 0)
 
 -- ---- what a call that is not refused says of its input, and the other way round
 
@@ -131,25 +143,75 @@ pub setting-taken : {s : List ℕ} {i j : ℕ} (v : Node) → HasNode s i j → 
 unfolding wrongNumbers
 setting-taken {s} {i} {j} v h e = setting-is s i j v ∙ zero-or (lookupRefusal s i j) _ (lookup-taken h) ∙ rw e refl
 
+-- what a call at a pixel that is not refused says: of the sheet, of its pixels, and the number that the rest of its checks give
+record AtPixel (s : List ℕ) (x y count rest : ℕ) : Type 0 where
+  accepted : Accepted s
+  first : Inside s x y
+  last : (k : ℕ) → count ≡ k + 1 → Inside s (x + k) y
+  others : rest ≡ 0
+
+pixel-held : (s : List ℕ) (x y count rest : ℕ) → orElse (checkRefusal s) (cond (offMesh s x y count) 7 rest) ≡ 0 → AtPixel s x y count rest
+unfolding Accepted
+pixel-held s x y count rest e =
+    let h = or-zero _ _ e in
+    let p = cond-zero (offMesh s x y count) 6 rest (h .1) in
+    let ends = condition-laws .seven s x y count .0 (p .0) in
+    record { accepted = h .0; first = ends .0; last = ends .1; others = p .1 }
+
+pixel-taken : {s : List ℕ} {x y count rest : ℕ} → AtPixel s x y count rest → orElse (checkRefusal s) (cond (offMesh s x y count) 7 rest) ≡ 0
+unfolding Accepted
+pixel-taken {s} {x} {y} {count} h =
+    zero-or (checkRefusal s) _ (h .accepted) ∙ rw (condition-laws .seven s x y count .1 (h .first, h .last)) (h .others)
+
 pub record HasPixel (s : List ℕ) (x y k : ℕ) : Type 0 where
   pub accepted : Accepted s
   pub inside : Inside s x y
   pub kind : k ≤ 2
 
 pub reading-held : (s : List ℕ) (x y kind : ℕ) → readingRefusal s x y kind ≡ 0 → HasPixel s x y kind
-unfolding Accepted
 reading-held s x y kind e =
-    let h = or-zero _ _ (sym (reading-is s x y kind) ∙ e) in
-    let p = cond-zero (outside s x y) 6 (cond (otherKind kind) 9 0) (h .1) in
-    record {
-      accepted = h .0;
-      inside = condition-laws .seven s x y 0 .0 (off-mesh-is s x y ∙ p .0) .0;
-      kind = condition-laws .nine kind .0 (not-given (otherKind kind) 8 (p .1));
-    }
+    let h = pixel-held s x y 0 (cond (otherKind kind) 9 0) (rw (off-mesh-is s x y) (sym (reading-is s x y kind) ∙ e)) in
+    record { accepted = h .accepted; inside = h .first; kind = condition-laws .nine kind .0 (not-given (otherKind kind) 8 (h .others)) }
 
 pub reading-taken : {s : List ℕ} {x y kind : ℕ} → HasPixel s x y kind → readingRefusal s x y kind ≡ 0
-unfolding Accepted
 reading-taken {s} {x} {y} {kind} h =
-    let pixel = condition-laws .seven s x y 0 .1 (h .inside, λ k q. absurd (omega (arith, q))) in
-    reading-is s x y kind ∙ zero-or (checkRefusal s) _ (h .accepted)
-    ∙ rw (sym (off-mesh-is s x y) ∙ pixel, condition-laws .nine kind .1 (h .kind)) refl
+    reading-is s x y kind ∙ rw (← off-mesh-is s x y)
+    (pixel-taken (record {
+      accepted = h .accepted;
+      first = h .inside;
+      last = λ k q. absurd (omega (arith, q));
+      others = rw (condition-laws .nine kind .1 (h .kind)) refl;
+    }))
+
+-- a run that is not refused: every pixel of it lies in the mesh, and it has one
+pub record HasRun (s : List ℕ) (x y count : ℕ) : Type 0 where
+  pub accepted : Accepted s
+  pub first : Inside s x y
+  pub each : (k : ℕ) → k < count → Inside s (x + k) y
+  pub nonempty : 0 < count
+
+-- the mesh holds what lies between two of its pixels in a row
+between : {s : List ℕ} {x y n : ℕ} → Inside s x y → Inside s (x + n) y → (k : ℕ) → k ≤ n → Inside s (x + k) y
+between first last k l =
+    record { left = omega (arith, first .left); right = omega (arith, last .right); top = first .top; bottom = first .bottom }
+
+pub run-held : (s : List ℕ) (x y count : ℕ) → runRefusal s x y count ≡ 0 → HasRun s x y count
+run-held s x y count e =
+    let h = pixel-held s x y count _ (sym (run-is s x y count) ∙ e) in
+    let some = condition-laws .eight count .0 (not-given (emptyRun count) 7 (h .others)) in
+    record {
+      accepted = h .accepted;
+      first = h .first;
+      each = λ k l. between (h .first) (h .last (count - 1) (omega arith)) k (omega arith);
+      nonempty = some;
+    }
+
+pub run-taken : (s : List ℕ) (x y k : ℕ) → Accepted s → Inside s x y → Inside s (x + k) y → runRefusal s x y (suc k) ≡ 0
+run-taken s x y k accepted first last =
+    run-is s x y (suc k)
+    ∙ pixel-taken (record {
+      accepted = accepted;
+      first = first;
+      last = λ n q. let same : n ≡ k = omega (arith, q) in rw same last;
+      others = rw (condition-laws .eight (suc k) .1 (omega arith)) refl;
+    })

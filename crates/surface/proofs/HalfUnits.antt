@@ -1,19 +1,21 @@
--- A reading at a pixel of the mesh returns, over its divisor, whole numbers within half a unit of the exact values. Assumes nothing.
-use Prim.Native.Nat.{ℕ, zero, suc}
+-- What a reading at a pixel of the mesh returns, over its divisor, and what a run leaves lie within half a unit of the exact values. Assumes nothing.
+use Prim.Native.Nat.{ℕ, zero, suc, _+_}
 use mathlib.Core.Path.{refl, _∙_}
 use mathlib.Core.List.{List, map}
-use Rattle.sibson.specs.Fraction.{ℚ}
+use Rattle.sibson.specs.Fraction.{ℚ, whole, half, _-ℚ_}
 use Rattle.readings.specs.Reading as reading
-use Rattle.readings.specs.Reading.{rounded}
+use Rattle.readings.specs.Reading.{rounded, _withinℚ_}
 use Rattle.readings.proofs.Rounded.{half-unit}
 use Rattle.sheet.specs.Refusals.{Accepted}
 use Rattle.sheet.specs.WellFormed.{Inside}
 use Rattle.answers.specs.Answers.{divisor, quotient, answered, Small}
 use Rattle.answers.proofs.Quotients.{quotient-laws}
-use Rattle.surface.specs.Surface.{levelAt, tiltXAt, tiltYAt, bendXXAt, bendXYAt, bendYYAt, level, tiltX, tiltY, bendXX, bendXY, bendYY}
+use Rattle.surface.specs.Place.{place}
+use Rattle.surface.specs.Surface.{jetAt, levelAt, tiltXAt, tiltYAt, bendXXAt, bendXYAt, bendYYAt, level, tiltX, tiltY, bendXX, bendXY, bendYY}
 use Rattle.surface.specs.Read.{numbers, exact}
 use Rattle.surface.specs.Theorems.{HalfUnitFrom, EachPair, HalfUnits}
 use Rattle.surface.proofs.Answered.{read-is}
+use Rattle.surface.proofs.Runs.{run-laws}
 use Rattle.surface.proofs.Sizes.{level-below, small-level, small-tilts, small-bends}
 
 from-rounded : (kind : ℕ) (x : ℚ) → Small (rounded x) → HalfUnitFrom (divisor kind) (quotient (divisor kind) (rounded x)) x
@@ -26,10 +28,15 @@ module _ (s : List ℕ) (x y : ℕ) (accepted : Accepted s) (inside : Inside s x
   each (suc zero) = let (a, b) = small-tilts s x y accepted inside in (from-rounded 1 _ a, (from-rounded 1 _ b, tt))
   each (suc (suc k)) = let (a, b, c) = small-bends s x y accepted inside in (from-rounded 2 _ a, (from-rounded 2 _ b, (from-rounded 2 _ c, tt)))
 
+near-level : (s : List ℕ) (x y : ℕ) → whole (level s x y) -ℚ jetAt s (place s x y) .height withinℚ half
+unfolding reading.level jetAt levelAt level
+near-level s x y = half-unit .distances (jetAt s (place s x y) .height)
+
 pub half-units : HalfUnits
 unfolding answered
 half-units = record {
   returned = λ s x y kind a i l r e.
       rw (e ∙ read-is (record { accepted = a; inside = i; kind = l })) (refl, each s x y a i kind);
+  runs = λ s x y row e k l. rw (run-laws .levels s x y row e k l) (near-level s (x + k) y);
   levels = level-below;
 }

@@ -6,6 +6,7 @@ pub mod EdgePoints
 pub mod Worked
 pub mod Touching
 pub mod Answered
+pub mod Runs
 pub mod Sizes
 pub mod HalfUnits
 pub mod AtNodes

@@ -20,13 +20,17 @@ use Rattle.answers.specs.Answers.{answered, refused, quotient}
 use Rattle.surface.specs.Place.{cellOf, Place, cellAlong, columnAt, rowAt, place, seen, touches}
 use Rattle.surface.specs.Surface.{nodeNumbers, nodesOf, setOf, levelAt, tiltXAt, tiltYAt, bendXXAt, bendXYAt, bendYYAt, level, tiltX, tiltY, bendXX, bendXY, bendYY}
 use Rattle.surface.specs.Read.{numbers, read}
+use Rattle.surface.specs.Run.{levelsAlong, begun, filled}
 use Rattle.surface.specs.Examples.{steep, Examples}
 
 pub examples : Examples
-unfolding floorDiv round value byR byS jet bend cornerNumbers inOrder weights weighed halved transposed flipped mirrored swap negateX negateY exchanged topDown leftRight onTop onLeft sibson element reading.rounded reading.level reading.tiltX reading.tiltY reading.bendXX reading.bendXY reading.bendYY side cell signed marked supported countIn decoded heightIn slopeIn nodeIn nodeAt heightAt slopeXAt slopeYAt refusals.some refusals.otherMark refusals.otherVersion refusals.otherCounts refusals.otherLength refusals.wrongStep refusals.wrongLine refusals.wrongLines refusals.wrongNodes refusals.outside refusals.offMesh refusals.otherKind refusals.table refusals.first refusals.member refusals.part refusals.readingRefusal ieee.span ieee.climb ieee.size ieee.odd ieee.units ieee.round ieee.div ieee.ofInt quotient answered refused cellOf cellAlong columnAt rowAt place touches nodeNumbers nodesOf setOf levelAt tiltXAt tiltYAt bendXXAt bendXYAt bendYYAt level tiltX tiltY bendXX bendXY bendYY numbers read
+unfolding floorDiv round value byR byS jet bend cornerNumbers inOrder weights weighed halved transposed flipped mirrored swap negateX negateY exchanged topDown leftRight onTop onLeft sibson element reading.rounded reading.level reading.tiltX reading.tiltY reading.bendXX reading.bendXY reading.bendYY side cell signed marked supported countIn decoded heightIn slopeIn nodeIn nodeAt heightAt slopeXAt slopeYAt refusals.some refusals.otherMark refusals.otherVersion refusals.otherCounts refusals.otherLength refusals.wrongStep refusals.wrongLine refusals.wrongLines refusals.wrongNodes refusals.outside refusals.offMesh refusals.emptyRun refusals.otherKind refusals.table refusals.first refusals.member refusals.part refusals.readingRefusal refusals.runRefusal ieee.span ieee.climb ieee.size ieee.odd ieee.units ieee.round ieee.div ieee.ofInt quotient answered refused cellOf cellAlong columnAt rowAt place touches nodeNumbers nodesOf setOf levelAt tiltXAt tiltYAt bendXXAt bendXYAt bendYYAt level tiltX tiltY bendXX bendXY bendYY numbers read levelsAlong begun filled
 examples = record {
   starredRead = refl;
   furtherRead = refl;
+  runsFill = (refl, refl);
+  oneDone = refl;
+  twoDone = refl;
   level = refl;
   tilt = refl;
   bend = refl;

@@ -1,4 +1,5 @@
--- 01's starred examples on whole sheets in bytes, and a sheet of four cells: what reading answers, computed on the definitions. Assumes nothing.
+-- 01's starred examples on whole sheets in bytes, and a sheet of four cells: what reading answers and what runs leave, computed on the definitions. Assumes
+-- nothing.
 use Prim.Native.Nat.{ℕ}
 use mathlib.Core.Path.{_≡_}
 use mathlib.Core.List.{List, [], _∷_, _++_, map}
@@ -6,13 +7,16 @@ use mathlib.Core.Bool.{true, false}
 use lib.Dec.{T}
 use lib.Ieee.{fin}
 use lib.IntN.{ℤ, pos, negsuc}
+use lib.ListN.{length, replicate}
 use Rattle.sibson.specs.Piece.{right, bottom, left}
 use Rattle.sibson.specs.Element.{+_, −_}
+use Rattle.sheet.specs.Refusals.{runRefusal}
 use Rattle.sheet.specs.Examples.{header, sheetA}
 use Rattle.answers.specs.Answers.{Outcome, answered}
 use Rattle.surface.specs.Place.{seen, touches}
 use Rattle.surface.specs.Surface.{levelAt, bendXXAt, bendYYAt}
 use Rattle.surface.specs.Read.{read}
+use Rattle.surface.specs.Run.{begun, filled}
 
 -- ---- sheets
 
@@ -110,9 +114,60 @@ further =
 abbrev pub Reads : List Example → Type 0
 Reads table = map (λ e. read (e .sheet) (e .x) (e .y) (e .kind)) table ≡ map (λ e. e .gives) table
 
+-- ---- runs
+
+-- a sheet, a pixel, a lent row, the number that filling it gives, and what it leaves there
+pub record Run : Type 0 where
+  pub sheet : List ℕ
+  pub x : ℕ
+  pub y : ℕ
+  pub row : List ℤ
+  pub gives : ℕ
+  pub leaves : List ℤ
+
+-- a row that has been lent with 7 in each of its places
+abbrev pub sevens : ℕ → List ℤ
+sevens count = replicate count (+ 7)
+
+-- the levels from a pixel to the right
+abbrev pub levelsOf : List ℕ → ℕ → ℕ → List ℤ → Run
+levelsOf s x y zs = record { sheet = s; x = x; y = y; row = sevens (length zs); gives = 0; leaves = zs }
+
+-- a refusal: the row as it was
+abbrev pub declined : List ℕ → ℕ → ℕ → ℕ → ℕ → Run
+declined s x y count n = record { sheet = s; x = x; y = y; row = sevens count; gives = n; leaves = sevens count }
+
+abbrev pub runs : List Run
+runs =
+    -- the rows of sheet A
+    levelsOf sheetA 0 0 (+ 64 ∷ + 32 ∷ + 0 ∷ []) ∷
+    levelsOf sheetA 0 1 (+ 32 ∷ + 16 ∷ + 0 ∷ []) ∷
+    levelsOf sheetA 0 2 (+ 0 ∷ + 0 ∷ + 0 ∷ []) ∷
+    -- rows of four cells, as the vectors have them: along an inner line; through both cells below; through a part of each; the last pixel
+    levelsOf fourCells 1 284 (− 512 ∷ − 379 ∷ − 133 ∷ + 0 ∷ − 67037 ∷ − 192313 ∷ − 262080 ∷ []) ∷
+    levelsOf fourCells 1 285 (− 362 ∷ − 11 ∷ + 903 ∷ + 1936 ∷ − 46407 ∷ − 144896 ∷ − 195970 ∷ []) ∷
+    levelsOf fourCells 3 286 (− 458 ∷ + 1242 ∷ − 17129 ∷ []) ∷
+    levelsOf fourCells 7 287 (− 64 ∷ []) ∷
+    -- refused: one pixel too many; from outside; empty; empty and outside; no sheet
+    declined sheetA 0 0 4 7 ∷
+    declined fourCells 0 285 3 7 ∷
+    declined fourCells 4 285 0 8 ∷
+    declined fourCells 8 285 0 7 ∷
+    declined [] 0 0 1 1 ∷ []
+
+-- each gives its number and leaves its row
+abbrev pub Fills : List Run → Type 0
+Fills table =
+    (map (λ e. runRefusal (e .sheet) (e .x) (e .y) (length (e .row))) table ≡ map (λ e. e .gives) table)
+    × (map (λ e. filled (e .sheet) (e .x) (e .y) (e .row)) table ≡ map (λ e. e .leaves) table)
+
 pub record Examples : Type 0 where
   pub starredRead : Reads starred
   pub furtherRead : Reads further
+  pub runsFill : Fills runs
+  -- one place of A's first row done, then two
+  pub oneDone : begun sheetA 0 0 1 (sevens 3) ≡ + 64 ∷ + 7 ∷ + 7 ∷ []
+  pub twoDone : begun sheetA 0 0 2 (sevens 3) ≡ + 64 ∷ + 32 ∷ + 7 ∷ []
   -- as floats: the level 16 of A is 2⁻², its tilt −48, 0 is −3 · 2⁻², +0, its bend 0, 3072, 0 is +0, 3 · 2⁻², +0
   pub level : read sheetA 1 1 0 ≡ record { number = 0; values = fin false 1 (negsuc 1) ∷ [] }
   pub tilt : read sheetA 1 0 1 ≡ record { number = 0; values = fin true 3 (negsuc 1) ∷ fin false 0 (pos 0) ∷ [] }

@@ -3,7 +3,8 @@ use Prim.Native.Nat.{ℕ, suc, _+_, _^_, _≤_, _<_}
 use mathlib.Core.Path.{_≡_}
 use mathlib.Core.List.{List, [], _∷_}
 use lib.Ieee.{Float}
-use lib.IntN.{ℤ, natAbs, _*ℤ_}
+use lib.IntN.{ℤ, pos, natAbs, _*ℤ_}
+use lib.ListN.{length, getD, set}
 use Rattle.sibson.specs.Fraction.{Positive, positive, ℚ, whole, half, _-ℚ_, _÷_}
 use Rattle.sibson.specs.Cubic.{jet, _≋_}
 use Rattle.sibson.specs.Piece.{top, right, bottom, left, FourCubics, edge}
@@ -11,16 +12,17 @@ use Rattle.sibson.specs.Conditions.{Meets, Equal}
 use Rattle.sibson.specs.Theorems.{Has, wholes}
 use Rattle.readings.specs.Reading.{_withinℚ_}
 use Rattle.sheet.specs.Format.{columns, rows, lineX, lineY, Node, grainsPerStep, heightAt, slopeXAt, slopeYAt}
-use Rattle.sheet.specs.Refusals.{settingRefusal, readingRefusal, Accepted}
+use Rattle.sheet.specs.Refusals.{settingRefusal, readingRefusal, runRefusal, Accepted}
 use Rattle.sheet.specs.WellFormed.{Inside}
 use Rattle.sheet.specs.Calls.{withNode}
 use Rattle.answers.specs.Answers.{outcome, divisor, quotient, answered}
 use Rattle.answers.specs.AnswerLaws.{_is_}
 use Rattle.answers.specs.declared.Answer.{Answer}
 use Rattle.answers.specs.declared.Answer.the-variants.{Level, Tilt, Bend, Refused}
-use Rattle.surface.specs.Place.{cellOf, HasCell}
-use Rattle.surface.specs.Surface.{nodesOf, setOf, level, tiltX, tiltY, bendXX, bendXY, bendYY}
+use Rattle.surface.specs.Place.{cellOf, HasCell, place}
+use Rattle.surface.specs.Surface.{nodesOf, setOf, jetAt, level, tiltX, tiltY, bendXX, bendXY, bendYY}
 use Rattle.surface.specs.Read.{exact, read}
+use Rattle.surface.specs.Run.{levelsAlong, begun, filled}
 
 -- ---- the set we read from
 
@@ -56,6 +58,25 @@ pub record ReadLaws : Type 0 where
   pub bend : (s : List ℕ) (x y : ℕ) → readingRefusal s x y 2 ≡ 0 → (r : Answer) → outcome r ≡ read s x y 2 →
       r ≡ Bend (quotient (positive 4096 tt) (bendXX s x y)) (quotient (positive 4096 tt) (bendXY s x y)) (quotient (positive 4096 tt) (bendYY s x y))
 
+-- ---- what a run leaves
+
+pub record RunLaws : Type 0 where
+  -- the row keeps its length; refused, it is as it was
+  pub size : (s : List ℕ) (x y : ℕ) (row : List ℤ) → length (filled s x y row) ≡ length row
+  pub refused : (s : List ℕ) (x y : ℕ) (row : List ℤ) → ¬ (runRefusal s x y (length row) ≡ 0) → filled s x y row ≡ row
+  -- else the sheet is accepted, every pixel of the run lies in the mesh, and place k holds the level of the pixel k to the right
+  pub accepted : (s : List ℕ) (x y count : ℕ) → runRefusal s x y count ≡ 0 → Accepted s
+  pub inside : (s : List ℕ) (x y count : ℕ) → runRefusal s x y count ≡ 0 → (k : ℕ) → k < count → Inside s (x + k) y
+  pub levels : (s : List ℕ) (x y : ℕ) (row : List ℤ) → runRefusal s x y (length row) ≡ 0 → (k : ℕ) → k < length row → getD (filled s x y row) k (pos 0) ≡ level s (x + k) y
+  -- from every pixel of an accepted sheet's mesh to every one to its right, or itself, a run is not refused
+  pub taken : (s : List ℕ) (x y k : ℕ) → Accepted s → Inside s x y → Inside s (x + k) y → runRefusal s x y (suc k) ≡ 0
+  -- k places done, for every k: none is the row as it was, each further place holds its level, all are the run
+  pub none : (s : List ℕ) (x y : ℕ) (row : List ℤ) → begun s x y 0 row ≡ row
+  pub oneMore : (s : List ℕ) (x y k : ℕ) (row : List ℤ) → k < length row → begun s x y (suc k) row ≡ set (begun s x y k row) k (level s (x + k) y)
+  pub all : (s : List ℕ) (x y : ℕ) (row : List ℤ) → begun s x y (length row) row ≡ levelsAlong s x y (length row)
+
+-- ---- half a unit
+
 -- the float is exactly a whole number over d, and that number lies within half a unit of x
 pub record HalfUnitFrom (d : Positive) (v : Float) (x : ℚ) : Type 0 where
   pub number : ℤ
@@ -74,6 +95,9 @@ EachPair P (x ∷ xs) (y ∷ ys) = P x y × EachPair P xs ys
 pub record HalfUnits : Type 0 where
   pub returned : (s : List ℕ) (x y kind : ℕ) → Accepted s → Inside s x y → kind ≤ 2 → (r : Answer) → outcome r ≡ read s x y kind →
       (outcome r .number ≡ 0) × EachPair (HalfUnitFrom (divisor kind)) (outcome r .values) (exact s x y kind)
+  -- and each level of a run that is not refused lies within half a unit of the height of that cubic
+  pub runs : (s : List ℕ) (x y : ℕ) (row : List ℤ) → runRefusal s x y (length row) ≡ 0 → (k : ℕ) → k < length row →
+      whole (getD (filled s x y row) k (pos 0)) -ℚ jetAt s (place s (x + k) y) .height withinℚ half
   -- a level lies strictly between −2²⁰ and 2²⁰
   pub levels : (s : List ℕ) (x y : ℕ) → Accepted s → Inside s x y → natAbs (level s x y) < 2 ^ 20
 

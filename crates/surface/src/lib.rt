@@ -1,3 +1,3 @@
-// The surface of a sheet: a pixel's place, level, tilt and bend there, and what a reading answers. Definitions and theorems; `places`, `cells` and `pixels`
-// have the code.
+// The surface of a sheet: a pixel's place, level, tilt and bend there, what a reading answers and what a run leaves. Definitions and theorems; `places`,
+// `cells`, `pixels`, `runs` and `filling` have the code.
 pub mod theorems;

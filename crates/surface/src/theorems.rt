@@ -1,6 +1,6 @@
 // Theorems that belong to no function. Each is the contract of one that returns 0, so that the gate asks for its proof.
 ghost use mathlib.Core.Path.{_≡_};
-ghost use Rattle.surface.specs.Theorems.{TheSet, SharedEdges, ReadLaws, HalfUnits, AtNodes};
+ghost use Rattle.surface.specs.Theorems.{TheSet, SharedEdges, ReadLaws, RunLaws, HalfUnits, AtNodes};
 ghost use Rattle.surface.specs.Touching.{PlaceLaws, Touching};
 ghost use Rattle.surface.specs.Examples.{Examples};
 
@@ -18,6 +18,12 @@ pub fn shared_edges() -> u64
 
 pub fn read_laws() -> u64
     ensures { λ r. ⌜ (r ≡ 0) × ReadLaws ⌝ }
+{
+    0
+}
+
+pub fn run_laws() -> u64
+    ensures { λ r. ⌜ (r ≡ 0) × RunLaws ⌝ }
 {
     0
 }

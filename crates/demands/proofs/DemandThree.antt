@@ -1,0 +1,28 @@
+-- Demand 3, from the theorems on one cell and on the surface of a sheet. Assumes nothing.
+use mathlib.Core.Path.{sym, _∙_}
+use lib.Dec.{lit≤}
+use Rattle.sibson.proofs.Linearity.{linearity}
+use Rattle.sibson.proofs.Unique.{uniqueness}
+use Rattle.surface.specs.Surface.{jetAt}
+use Rattle.surface.specs.Read.{exact}
+use Rattle.surface.proofs.Sets.{the-set, shared-edges}
+use Rattle.surface.proofs.Runs.{run-laws}
+use Rattle.surface.proofs.HalfUnits.{half-units}
+use Rattle.demands.specs.Demands.{DemandThree}
+
+pub demand-three : DemandThree
+unfolding jetAt exact
+demand-three = record {
+  unique = uniqueness .exactly;
+  linear = linearity;
+  meets = λ s a i j h. the-set .fits s a i j h .meets;
+  nodes = λ s a i j h. the-set .fits s a i j h .nodes;
+  only = λ s a i j h S m n. the-set .only s a i j h S (record { meets = m; nodes = n });
+  sideBySide = shared-edges .sideBySide;
+  oneAboveTheOther = shared-edges .oneAboveTheOther;
+  levels = λ a i c. half-units .returned _ _ _ 0 a i (lit≤ tt) _ (c .answer);
+  tilts = λ a i c. half-units .returned _ _ _ 1 a i (lit≤ tt) _ (c .answer);
+  bends = λ a i c. half-units .returned _ _ _ 2 a i (lit≤ tt) _ (c .answer);
+  runs = λ c k l. rw (c .levels) (half-units .runs _ _ _ _ (sym (c .answer)) k l);
+  reached = λ k a i j e c. c .answer ∙ rw e (run-laws .taken _ _ _ k a i j);
+}

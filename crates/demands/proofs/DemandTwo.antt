@@ -1,0 +1,50 @@
+-- Demand 2, from the laws of readings and runs, of the element and of the rounding rule. Assumes nothing.
+use mathlib.Core.Path.{_≡_, sym, _∙_}
+use mathlib.Core.List.{[], _∷_}
+use lib.Dec.{lit≤}
+use lib.IntN.{ℤ, pos, _+ℤ_}
+use Rattle.integers.proofs.Polynomial.{#_, _⊕_, _⊗_}
+use Rattle.integers.proofs.Solve.{_≐_}
+use Rattle.integers.proofs.Deduce.{_·_, _⊨_, deduce}
+use Rattle.integers.proofs.Rounding.{rounding-laws}
+use Rattle.sibson.specs.Fraction.{ℚ, _≈_, _+ℚ_, whole, half}
+use Rattle.sibson.specs.Element.{element}
+use Rattle.sibson.proofs.Derivatives.{derivatives}
+use Rattle.nistir_6718.proofs.Printed.{sources}
+use Rattle.readings.specs.Reading as reading
+use Rattle.readings.specs.Reading.{rounded}
+use Rattle.readings.proofs.Rounded.{half-unit}
+use Rattle.sheet.proofs.Chains.{reading-taken}
+use Rattle.sheet.proofs.Setting.{setting-laws}
+use Rattle.answers.specs.Answers.{outcome, answered}
+use Rattle.answers.proofs.Told.{answer-laws}
+use Rattle.surface.specs.Surface.{setOf, levelAt, tiltXAt, tiltYAt, bendXXAt, bendXYAt, bendYYAt, level, tiltX, tiltY, bendXX, bendXY, bendYY}
+use Rattle.surface.proofs.Places.{place-laws}
+use Rattle.surface.proofs.Answered.{read-laws}
+use Rattle.surface.proofs.AtNodes.{at-nodes}
+use Rattle.surface.proofs.Runs.{run-laws}
+use Rattle.demands.specs.Demands.{DemandTwo}
+
+-- n/d = z + 1/2
+tie : (x : ℚ) (z : ℤ) → x ≈ whole z +ℚ half → rounded x ≡ z +ℤ pos 1
+unfolding rounded
+tie x z e = rounding-laws .tie (x .numerator) (x .denominator .number) (x .denominator .above) z
+    (deduce 3 (λ n d z. (# 1 · (n ⊗ (# 1 ⊗ (# 1 ⊗ # 2)) ≐ (z ⊗ (# 1 ⊗ # 2) ⊕ # 1 ⊗ # 1) ⊗ d)) ∷ [] ⊨ # 2 ⊗ n ≐ (# 2 ⊗ z ⊕ # 1) ⊗ d) tt
+    (x .numerator) (pos (x .denominator .number)) z (e .crossed))
+
+pub demand-two : DemandTwo
+unfolding outcome answered element reading.level reading.tiltX reading.tiltY reading.bendXX reading.bendXY reading.bendYY setOf levelAt tiltXAt tiltYAt bendXXAt bendXYAt bendYYAt level tiltX tiltY bendXX bendXY bendYY
+demand-two = record {
+  levels = λ a i c. read-laws .level _ _ _ (reading-taken (record { accepted = a; inside = i; kind = lit≤ tt })) _ (c .answer);
+  tilts = λ a i c. read-laws .tilt _ _ _ (reading-taken (record { accepted = a; inside = i; kind = lit≤ tt })) _ (c .answer);
+  bends = λ a i c. read-laws .bend _ _ _ (reading-taken (record { accepted = a; inside = i; kind = lit≤ tt })) _ (c .answer);
+  runs = λ c k l. rw (c .levels) (run-laws .levels _ _ _ _ (sym (c .answer)) k l);
+  source = λ s i j k P. sources .pieces k _ P;
+  derivatives = derivatives;
+  places = place-laws;
+  nearest = half-unit .distances;
+  tie = tie;
+  readsBack = λ c. rw (c .sheet) (setting-laws .readsBack _ _ _ _ (sym (c .answer)));
+  levelBack = λ c d. answer-laws .told _ _ (d .answer ∙ rw (c .sheet) (at-nodes .setLevels _ _ _ _ (sym (c .answer))));
+  tiltBack = λ c d. answer-laws .told _ _ (d .answer ∙ rw (c .sheet) (at-nodes .setTilts _ _ _ _ (sym (c .answer))));
+}

@@ -1,0 +1,3 @@
+pub mod DemandOne
+pub mod DemandTwo
+pub mod DemandThree

@@ -1,0 +1,30 @@
+// The public calls that give a reading or write lent memory, with what the demands say of them for contracts: whatever a call gives and leaves is what the
+// demands speak of.
+ghost use Rattle.sheet.specs.Format.{node};
+ghost use Rattle.demands.specs.Demands.{SetNode, Read, FillRun};
+use answers::Answer;
+
+pub fn set_node(
+    sheet: &mut [u8],
+    column: u32,
+    row: u32,
+    height: i32,
+    x_slope: i32,
+    y_slope: i32,
+) -> u32
+    ensures { λ r. ⌜ SetNode (now (sheet .entry)) column row (node height «x_slope» «y_slope») r (now (sheet .exit)) ⌝ }
+{
+    light_sheet::set_node(sheet, column, row, height, x_slope, y_slope)
+}
+
+pub fn read(sheet: &[u8], x: u32, y: u32, kind: u32) -> Answer
+    ensures { λ r. ⌜ Read (now (sheet .entry)) x y kind r ⌝ }
+{
+    light_sheet::read(sheet, x, y, kind)
+}
+
+pub fn fill_run(sheet: &[u8], x: u32, y: u32, levels: &mut [i32]) -> u32
+    ensures { λ r. ⌜ FillRun (now (sheet .entry)) x y (now (levels .entry)) r (now (levels .exit)) ⌝ }
+{
+    light_sheet::fill_run(sheet, x, y, levels)
+}

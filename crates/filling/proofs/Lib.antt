@@ -1,0 +1,3 @@
+pub mod OffMesh
+pub mod Refusal
+pub mod Gathered

@@ -1,0 +1,82 @@
+-- A run that is underway: it has done its first pixels, and the next lies in the column that it has come to. Assumes nothing.
+use Prim.Native.Nat.{ℕ, suc, _+_, _-_, _≤_, _<_}
+use mathlib.Core.Path.{_≡_, refl, sym, _∙_, ap}
+use mathlib.Core.List.{List}
+use native.Mathlib.Decide.{decLt}
+use native.Mathlib.Nat.{zero-add, add-zero, le-antisymm}
+use native.Mathlib.Numerals.{add-one}
+use native.Mathlib.Omega.{arith}
+use lib.IntN.{ℤ}
+use lib.ListN.{length}
+use Rattle.sheet.specs.Format.{columns, lineX}
+use Rattle.surface.specs.Place.{columnAt, rowAt, place}
+use Rattle.surface.specs.Run.{begun}
+use Rattle.surface.proofs.Cells.{sound}
+use Rattle.surface.proofs.Places.{has-cell, there}
+use Rattle.spans.specs.Span.{laid}
+use Rattle.spans.proofs.Laid.{laid-length, laid-join}
+use Rattle.runs.specs.Strips.{stripAt, levelOn, doneIn, OnMesh, OnStrip}
+use Rattle.runs.proofs.Columns.{strip-cell, Ends, ends}
+use Rattle.runs.proofs.Levels.{laid-begun}
+
+module _ (s : List ℕ) (x y count : ℕ) (mesh : OnMesh s x y count) where
+  -- the last pixel of a run lies on the last line or before it
+  to-last : x + count ≤ suc (lineX s (columns s - 1))
+  to-last = elim (decLt 0 count) [
+    | yes h ↦ let last = mesh .each (count - 1) (omega arith) .right in omega arith
+    | no h ↦ omega (arith, mesh .first .right)
+  ]
+
+  pub in-strip : OnStrip s (stripAt s y) x count
+  unfolding stripAt rowAt place
+  in-strip = let t = there s (mesh .accepted) x y (mesh .first) in record {
+    accepted = mesh .accepted;
+    row = has-cell s (mesh .accepted) x y .row;
+    offset = omega (arith, t .toBottom);
+    height = refl;
+    from = mesh .first .left;
+    to = to-last;
+  }
+
+  -- the level of the pixel k to the right
+  abbrev levelOf : ℕ → ℤ
+  levelOf k = levelOn s (stripAt s y) (x + k)
+
+  module _ (row₀ : List ℤ) where
+    pub record Underway (row : List ℤ) (column done : ℕ) : Type 0 where
+      pub most : done ≤ count
+      pub laid : row ≡ laid levelOf 0 done row₀
+      pub here : done < count → column ≡ columnAt s (x + done)
+
+    pub begins : Underway row₀ (columnAt s x) 0
+    unfolding laid
+    begins = record { most = omega arith; laid = refl; here = λ h. ap (columnAt s) (sym (add-zero x)) }
+
+    module _ {row : List ℤ} {column done : ℕ} (u : Underway row column done) where
+      pub same-length : length row ≡ length row₀
+      same-length = ap length (u .laid) ∙ laid-length levelOf 0 done row₀
+
+      -- through one column
+      module _ (more : done < count) {e : ℕ} (end : e ≡ doneIn s x column count) where
+        abbrev ended : Ends s (stripAt s y) x count in-strip done more column (u .here more) (doneIn s x column count)
+        ended = ends s (stripAt s y) x count in-strip done more column (u .here more)
+
+        pub column-near : column < 65
+        column-near = let there = strip-cell s (stripAt s y) x count in-strip done more column (u .here more) .column in
+            omega (arith, there, sound s (mesh .accepted) .manyColumns)
+
+        pub further : done < e
+        further = rw end (ended .further)
+
+        pub goes-on : {next : List ℤ} → next ≡ laid (λ k. levelOf (done + k)) done (e - done) row → Underway next (column + 1) e
+        goes-on l = record {
+          most = rw end (ended .most);
+          laid = l ∙ (λ j. laid (λ k. levelOf (done + k)) (sym (zero-add done) j) (e - done) (u .laid j))
+              ∙ sym (laid-join levelOf 0 done (e - done) row₀)
+              ∙ (let whole : done + (e - done) ≡ e = omega (arith, further) in ap (λ (n : ℕ). laid levelOf 0 n row₀) whole);
+          here = λ h. add-one column ∙ sym (ended .next (rw (← end) h)) ∙ ap (λ (n : ℕ). columnAt s (x + n)) (sym end);
+        }
+
+      -- to its end
+      pub finishes : count ≤ done → count ≤ length row₀ → row ≡ begun s x y count row₀
+      finishes l fits = let all : done ≡ count = le-antisymm (u .most) l in u .laid ∙ ap (λ (n : ℕ). laid levelOf 0 n row₀) all ∙ laid-begun s x y row₀ count fits

@@ -1,0 +1,92 @@
+// Levels along a row of pixels of an accepted sheet, from left to right, one column of cells after the other.
+ghost use mathlib.Core.Path.{_≡_};
+ghost use Prim.Native.Nat.{suc, _+_, _-_, _≤_, _<_};
+ghost use lib.ListN.{length};
+ghost use Rattle.sheet.specs.Format.{columns, lineX};
+ghost use Rattle.sheet.specs.Refusals.{Accepted};
+ghost use Rattle.surface.specs.Place.{columnAt};
+ghost use Rattle.surface.specs.Run.{begun};
+ghost use Rattle.spans.specs.Span.{laid};
+ghost use Rattle.runs.specs.Strips.{levelOn, doneIn, OnMesh, OnStrip};
+use cells::corner_numbers;
+use checking::HEADER_SIZE;
+use checking::columns;
+use evaluation::Pixel;
+use places::find;
+use spans::fill_cell;
+use spans::least;
+use words::word;
+
+// The cells that a row of pixels lies in: their row, the pixels' offset from their top edge, their height.
+pub struct Strip {
+    pub row: usize,
+    pub offset: usize,
+    pub height: usize,
+}
+
+// Stores the levels of `count` pixels, from (x, y) to the right, in the first places of the row, strictly from left to right. The other places keep what
+// they hold.
+pub fn run(sheet: &[u8], x: u32, y: u32, row: &mut [i32], count: usize)
+    requires { ⌜ OnMesh (now sheet) x y count × (count ≤ length (now row)) ⌝ }
+    ensures { λ _. ⌜ now (row .exit) ≡ begun (now (sheet .entry)) x y count (now (row .entry)) ⌝ }
+{
+    let place = find(sheet, x, y);
+    let strip = Strip {
+        row: place.row,
+        offset: place.pixel.b,
+        height: place.pixel.height,
+    };
+    let mut column = place.column;
+    let mut done: usize = 0;
+    while done < count {
+        done = fill_column(sheet, strip, column, x as usize, row, done, count);
+        column += 1;
+    }
+}
+
+// Goes on with a run through one column of cells, and answers how many pixels are done then.
+fn fill_column(
+    sheet: &[u8],
+    strip: Strip,
+    column: usize,
+    x: usize,
+    row: &mut [i32],
+    done: usize,
+    count: usize,
+) -> usize
+    requires { ⌜ OnStrip (now sheet) strip x count × (done < count) × (column ≡ columnAt (now sheet) (x + done)) × (count ≤ length (now row)) ⌝ }
+    ensures answer { λ r. ⌜ r ≡ doneIn (now (sheet .entry)) x column count ⌝ }
+    ensures row { λ r. ⌜ now (row .exit) ≡ laid (λ k. levelOn (now (sheet .entry)) strip (x + (done + k))) done (r - done) (now (row .entry)) ⌝ }
+{
+    let left = line_x(sheet, column);
+    let width = line_x(sheet, column + 1) - left;
+    let end = done_in(sheet, column, x, count);
+    let n = corner_numbers(sheet, column, strip.row, width, strip.height);
+    let next = Pixel {
+        a: x + done - left,
+        b: strip.offset,
+        width: width,
+        height: strip.height,
+    };
+    fill_cell(row, done, end - done, n, next);
+    end
+}
+
+// How many of the run's pixels are done when those in this column are.
+fn done_in(sheet: &[u8], column: usize, x: usize, count: usize) -> usize
+    requires { ⌜ Accepted (now sheet) × (suc column < columns (now sheet)) × (x ≤ lineX (now sheet) (suc column)) ⌝ }
+    ensures { λ r. ⌜ r ≡ doneIn (now (sheet .entry)) x column count ⌝ }
+{
+    if column + 2 == columns(sheet) {
+        return count;
+    }
+    least(count, line_x(sheet, column + 1) - x)
+}
+
+// The position of a vertical line.
+fn line_x(sheet: &[u8], i: usize) -> usize
+    requires { ⌜ Accepted (now sheet) × (i < columns (now sheet)) ⌝ }
+    ensures { λ r. ⌜ r ≡ lineX (now (sheet .entry)) i ⌝ }
+{
+    word(sheet, HEADER_SIZE + 2 * i) as usize
+}

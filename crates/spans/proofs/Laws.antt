@@ -1,0 +1,40 @@
+-- Where the spans of a row end: a piece that holds a pixel holds those to its right before its end, and no others. Assumes nothing.
+use Prim.Native.Nat.{ℕ, _+_, _*_, _≤_, _<_}
+use mathlib.Core.Path.{sym, subst}
+use native.Mathlib.Nat.{mul-le-mul-right}
+use native.Mathlib.Omega.{arith}
+use Rattle.sibson.specs.Piece.{Piece, top, right, bottom, left}
+use Rattle.evaluation.specs.declared.Pixel.{Pixel}
+use Rattle.spans.specs.Span.{toRight, pieceOf, endOf, SpanLaws}
+use Rattle.spans.proofs.Divisions.{below-floor, below-ceiling}
+use Rattle.spans.proofs.InRow.{inside-at}
+use Rattle.spans.proofs.Products.{Holds, piece-is, piece-holds}
+
+-- in the row of a pixel
+module _ (p : Pixel) (high : 0 < p .height) where
+  -- the piece k holds at the offset a
+  abbrev At : Piece → ℕ → Type 0
+  At k a = Holds k (a * p .height) (p .b * p .width) (p .width * p .height)
+
+  before-end : (k : Piece) (a : ℕ) → a ≤ p .width → At k a → a < endOf k p
+  unfolding endOf
+  before-end top a l h = below-floor high .1 (omega arith)
+  before-end right a l h = omega arith
+  before-end bottom a l h = below-ceiling high .1 (h .0)
+  before-end left a l h = below-ceiling high .1 (omega arith)
+
+  up-to-end : (k : Piece) {a c : ℕ} → a ≤ c → At k a → c < endOf k p → At k c
+  unfolding endOf
+  up-to-end top l h e = (omega (arith, mul-le-mul-right (p .height) l), omega (arith, below-floor high .0 e))
+  up-to-end right l h e = omega (arith, mul-le-mul-right (p .height) l)
+  up-to-end bottom l h e = (below-ceiling high .0 e, omega (arith, mul-le-mul-right (p .height) l))
+  up-to-end left l h e = omega (arith, below-ceiling high .0 e)
+
+pub span-laws : SpanLaws
+span-laws = record {
+  starts = λ p i. before-end p (i .height .least) (pieceOf p) (p .a) (i .across) (piece-holds p i);
+  same = λ p k i l. sym (piece-is (toRight p k) i (pieceOf p) (up-to-end p (i .height .least) (pieceOf p) (omega arith) (piece-holds p (inside-at i (omega (arith, i .across)))) l));
+  beyond = λ p k i l e.
+      let h = subst (λ q. At p (i .height .least) q (p .a + k)) e (piece-holds (toRight p k) i) in
+      omega (arith, before-end p (i .height .least) (pieceOf p) (p .a + k) (i .across) h);
+}

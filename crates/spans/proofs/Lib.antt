@@ -1,0 +1,6 @@
+pub mod Laid
+pub mod Divisions
+pub mod Products
+pub mod InRow
+pub mod Laws
+pub mod Cubics

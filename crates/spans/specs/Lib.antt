@@ -1,0 +1,2 @@
+pub mod Span
+pub mod Needs

@@ -1,0 +1,27 @@
+-- What the code asks of a row of pixels. Assumes nothing.
+use Prim.Native.Nat.{ℕ, suc, _+_, _^_, _≤_, _<_}
+use mathlib.Core.List.{List}
+use lib.IntN.{ℤ, natAbs}
+use Rattle.integers.specs.Within.{_within_}
+use Rattle.integers.specs.Round.{round}
+use Rattle.integers.specs.Constants.{Prepared}
+use Rattle.integers.specs.declared.Denominator.{Denominator}
+use Rattle.rows.specs.Row.{atOffset, reach}
+use Rattle.evaluation.specs.Pixels.{Inside}
+use Rattle.evaluation.specs.declared.Pixel.{Pixel}
+
+-- a pixel of its cell, and count pixels from it on that lie in the cell, the right edge included
+pub record InCell (p : Pixel) (count : ℕ) : Type 0 where
+  pub inside : Inside p
+  pub fits : p .a + count ≤ suc (p .width)
+
+-- at an offset the cubic stays within 64 bits, and the level within 32
+pub record Level (cubic : List ℤ) (offset : ℕ) (d : Denominator) : Type 0 where
+  pub reached : reach cubic ≤ 2 ^ 62
+  pub near : offset ≤ 64
+  pub prepared : Prepared d
+  pub small : round (atOffset cubic offset) (natAbs (d .value)) within (2 ^ 20)
+
+-- and so at count offsets
+abbrev pub Levels : List ℤ → ℕ → ℕ → Denominator → Type 0
+Levels cubic offset count d = (k : ℕ) → k < count → Level cubic (offset + k) d

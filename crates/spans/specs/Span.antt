@@ -1,0 +1,47 @@
+-- A row of pixels in one cell: the level at each, where its spans end (one for each piece that it crosses), and a row of which some places are anew. Assumes nothing.
+use Prim.Native.Nat.{ℕ, zero, suc, _+_, _*_, _-_, _/_, _≤_, _<_, min}
+use mathlib.Core.Path.{_≡_}
+use mathlib.Core.List.{List}
+use lib.IntN.{ℤ}
+use lib.ListN.{set}
+use Rattle.sibson.specs.Piece.{Piece, top, right, bottom, left, pieceAt}
+use Rattle.sibson.specs.Element.{CornerNumbers, sibson}
+use Rattle.readings.specs.Reading.{level}
+use Rattle.evaluation.specs.Pixels.{cellOf, pointOf, Inside}
+use Rattle.evaluation.specs.declared.Pixel.{Pixel}
+
+-- the pixel k to the right
+abbrev pub toRight : Pixel → ℕ → Pixel
+toRight p k = record { a = p .a + k; b = p .b; width = p .width; height = p .height }
+
+-- the piece of a pixel, and the level there of the set we read from with these corner numbers
+abbrev pub pieceOf : Pixel → Piece
+pieceOf p = pieceAt (pointOf p)
+
+unfoldable pub levelIn : CornerNumbers → Pixel → ℤ
+levelIn n p = level (cellOf p) (sibson n (pieceOf p)) (pointOf p)
+
+-- n / d, rounded up
+unfoldable pub ceiling : ℕ → ℕ → ℕ
+ceiling n d = (n + d - 1) / d
+
+-- the first offset beyond a piece, in the row of a pixel: the left piece ends where the row meets a diagonal; so do the bottom one, which the diagonal's pixel
+-- does not belong to, and the top one, which it belongs to; the right one ends with the cell, whose right edge counts
+unfoldable pub endOf : Piece → Pixel → ℕ
+endOf top p = suc ((p .width * p .height - p .b * p .width) / p .height)
+endOf right p = suc (p .width)
+endOf bottom p = ceiling (p .b * p .width) (p .height)
+endOf left p = ceiling (min (p .b * p .width) (p .width * p .height - p .b * p .width)) (p .height)
+
+-- a pixel's piece holds the pixels of the cell to its right that lie before that end, and none from there on
+pub record SpanLaws : Type 0 where
+  pub starts : (p : Pixel) → Inside p → p .a < endOf (pieceOf p) p
+  pub same : (p : Pixel) (k : ℕ) → Inside (toRight p k) → p .a + k < endOf (pieceOf p) p → pieceOf (toRight p k) ≡ pieceOf p
+  pub beyond : (p : Pixel) (k : ℕ) → Inside (toRight p k) → endOf (pieceOf p) p ≤ p .a + k → ¬ (pieceOf (toRight p k) ≡ pieceOf p)
+
+-- ---- places of a lent row
+
+-- count places anew, from index at on: place at + k holds f k
+unfoldable pub laid : (ℕ → ℤ) → ℕ → ℕ → List ℤ → List ℤ
+laid f at zero row = row
+laid f at (suc k) row = set (laid f at k row) (at + k) (f k)
