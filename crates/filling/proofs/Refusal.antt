@@ -1,17 +1,14 @@
 -- What refuses a run, from the answers that the code has. Assumes nothing.
 use Prim.Native.Nat.{ℕ}
-use mathlib.Core.Path.{_≡_, sym, _∙_}
+use mathlib.Core.Path.{_≡_, refl}
 use mathlib.Core.List.{List}
 use mathlib.Core.Bool.{Bool, cond}
 use lib.Dec.{eqb}
 use Rattle.sheet.specs.Refusals.{offMesh, emptyRun, checkRefusal, runRefusal}
-use Rattle.sheet.proofs.Chains.{zero-or, refused-or, run-is}
+use Rattle.sheet.proofs.Chains.{passed-by, run-is}
 
 module _ (s : List ℕ) (x y count : ℕ) where
-  pub sheet-refused : {r : ℕ} → r ≡ checkRefusal s → (r ≡ 0 → ⊥) → r ≡ runRefusal s x y count
-  sheet-refused e h = e ∙ sym (run-is s x y count ∙ refused-or (checkRefusal s) _ (λ z. h (e ∙ z)))
-
   -- the sheet is accepted: the test of the first and the last pixel, then that of an empty run
   pub run-answer : checkRefusal s ≡ 0 → {p k : Bool} → p ≡ offMesh s x y count → k ≡ eqb count 0 → cond p 7 (cond k 8 0) ≡ runRefusal s x y count
   unfolding emptyRun
-  run-answer z f g = rw (f, g) (sym (run-is s x y count ∙ zero-or (checkRefusal s) _ z))
+  run-answer z f g = rw (f, g) (passed-by _ _ (run-is s x y count) refl z)

@@ -8,26 +8,15 @@ use Rattle.words.specs.Word.{replaced}
 use Rattle.sheet.specs.Format.{Node, encoded, nodeSize, nodeOffset}
 use Rattle.sheet.specs.Refusals.{noNode, wrongNumbers, checkRefusal, lookupRefusal, settingRefusal}
 use Rattle.sheet.specs.Calls.{span, lookedUp, withNode}
-use Rattle.sheet.proofs.Chains.{orElse, zero-or, refused-or, lookup-is, setting-is}
+use Rattle.sheet.proofs.Chains.{refused-by, passed-by, lookup-is, setting-is}
 use Rattle.sheet.proofs.Lookup.{lookup-laws}
 use Rattle.sheet.proofs.Setting.{set-is, refused-is}
-
--- ---- a chain of two answers: n, then k; r is n as the code has it
-
-refused : {m r : ℕ} (n k : ℕ) → m ≡ orElse n k → r ≡ n → (r ≡ 0 → ⊥) → r ≡ m
-refused n k q e h = e ∙ sym (q ∙ refused-or n k (λ z. h (e ∙ z)))
-
-passed : {m r : ℕ} (n k : ℕ) → m ≡ orElse n k → r ≡ n → r ≡ 0 → k ≡ m
-passed n k q e h = sym (q ∙ zero-or n k (sym e ∙ h))
 
 -- ---- the lookup's
 
 module _ (s : List ℕ) (i j : ℕ) {r : ℕ} (e : r ≡ checkRefusal s) where
-  pub sheet-refused : (r ≡ 0 → ⊥) → r ≡ lookupRefusal s i j
-  sheet-refused h = refused _ _ (lookup-is s i j) e h
-
   pub node-answer : r ≡ 0 → {b : Bool} → noNode s i j ≡ b → cond b 10 0 ≡ lookupRefusal s i j
-  node-answer h q = ap (λ b. cond b 10 0) (sym q) ∙ passed _ _ (lookup-is s i j) e h
+  node-answer h q = ap (λ b. cond b 10 0) (sym q) ∙ passed-by _ _ (lookup-is s i j) e h
 
 module _ (s : List ℕ) (i j : ℕ) {r : ℕ} (e : r ≡ lookupRefusal s i j) where
   pub looked-none : (r ≡ 0 → ⊥) → lookedUp s i j ≡ span 0 0
@@ -47,12 +36,12 @@ module _ (s : List ℕ) (i j : ℕ) (v : Node) where
 
   module _ {r : ℕ} (e : r ≡ lookupRefusal s i j) where
     pub set-refused : (r ≡ 0 → ⊥) → Sets r s
-    set-refused h = unset (refused _ _ (setting-is s i j v) e h) h
+    set-refused h = unset (refused-by _ _ (setting-is s i j v) e h) h
 
     -- u is v as the code hands it on, and w the answer on its numbers
     module _ (z : r ≡ 0) {u : Node} (f : u ≡ v) {w : Bool} (q : w ≡ wrongNumbers u) where
       numbers-answer : {b : Bool} → w ≡ b → cond b 11 0 ≡ settingRefusal s i j v
-      numbers-answer h = ap (λ b. cond b 11 0) (sym h ∙ q ∙ ap wrongNumbers f) ∙ passed _ _ (setting-is s i j v) e z
+      numbers-answer h = ap (λ b. cond b 11 0) (sym h ∙ q ∙ ap wrongNumbers f) ∙ passed-by _ _ (setting-is s i j v) e z
 
       pub set-wrong : w ≡ true → Sets 11 s
       set-wrong h = unset (numbers-answer h) (λ k. omega arith)

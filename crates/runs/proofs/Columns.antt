@@ -1,9 +1,9 @@
 -- How far a run goes in the column of cells that it has come to: all its pixels up to there lie in this column, and the next one in the next. Assumes nothing.
-use Prim.Native.Nat.{ℕ, suc, _+_, _-_, _≤_, _<_}
+use Prim.Native.Nat.{ℕ, suc, _+_, _-_, _≤_, _<_, min}
 use mathlib.Core.Path.{_≡_}
 use mathlib.Core.List.{List}
 use native.Mathlib.Decide.{ℕ-discrete, decLt}
-use native.Mathlib.Nat.{le-antisymm, min-eq-left, min-eq-right}
+use native.Mathlib.Nat.{le-antisymm}
 use native.Mathlib.Omega.{arith}
 use borrow.Author.Tests.{eq-eqb, ne-eqb}
 use Rattle.sheet.specs.Format.{columns, lineX}
@@ -80,8 +80,6 @@ module _ (s : List ℕ) (t : Strip) (x count : ℕ) (on : OnStrip s t x count) (
   unfolding doneIn
   ends = elim (ℕ-discrete (column + 2) (columns s)) [
     | yes last ↦ rw (eq-eqb _ _ last) (ends-last last)
-    | no inner ↦ let far = before-next inner in elim (decLt count (lineX s (suc column) - x)) [
-      | yes h ↦ rw (ne-eqb _ _ inner, min-eq-left {n = count} {m = lineX s (suc column) - x} (omega arith)) (ends-inner inner count more (omega arith) (omega arith) (λ l. absurd (omega arith)))
-      | no h ↦ rw (ne-eqb _ _ inner, min-eq-right {n = lineX s (suc column) - x} {m = count} (omega arith)) (ends-inner inner (lineX s (suc column) - x) (omega arith) (omega arith) (omega arith) (λ l. omega arith))
-    ]
+    | no inner ↦ let far = before-next inner in
+        rw (ne-eqb _ _ inner) (ends-inner inner (min count (lineX s (suc column) - x)) (omega arith) (omega arith) (omega arith) (λ l. omega arith))
   ]

@@ -3,7 +3,7 @@ use Prim.Native.Nat.{ℕ, suc, _+_, _-_, _≤_, _<_}
 use mathlib.Core.Path.{_≡_, refl, sym, _∙_, ap}
 use mathlib.Core.List.{List}
 use native.Mathlib.Decide.{decLt}
-use native.Mathlib.Nat.{zero-add, add-zero, le-antisymm}
+use native.Mathlib.Nat.{zero-add, add-zero}
 use native.Mathlib.Numerals.{add-one}
 use native.Mathlib.Omega.{arith}
 use lib.IntN.{ℤ}
@@ -14,7 +14,7 @@ use Rattle.surface.specs.Run.{begun}
 use Rattle.surface.proofs.Cells.{sound}
 use Rattle.surface.proofs.Places.{has-cell, there}
 use Rattle.spans.specs.Span.{laid}
-use Rattle.spans.proofs.Laid.{laid-length, laid-join}
+use Rattle.spans.proofs.Laid.{laid-length, laid-none, laid-join, laid-all}
 use Rattle.runs.specs.Strips.{stripAt, levelOn, doneIn, OnMesh, OnStrip}
 use Rattle.runs.proofs.Columns.{strip-cell, Ends, ends}
 use Rattle.runs.proofs.Levels.{laid-begun}
@@ -49,8 +49,7 @@ module _ (s : List ℕ) (x y count : ℕ) (mesh : OnMesh s x y count) where
       pub here : done < count → column ≡ columnAt s (x + done)
 
     pub begins : Underway row₀ (columnAt s x) 0
-    unfolding laid
-    begins = record { most = omega arith; laid = refl; here = λ h. ap (columnAt s) (sym (add-zero x)) }
+    begins = record { most = omega arith; laid = laid-none levelOf 0 row₀; here = λ h. ap (columnAt s) (sym (add-zero x)) }
 
     module _ {row : List ℤ} {column done : ℕ} (u : Underway row column done) where
       pub same-length : length row ≡ length row₀
@@ -79,4 +78,4 @@ module _ (s : List ℕ) (x y count : ℕ) (mesh : OnMesh s x y count) where
 
       -- to its end
       pub finishes : count ≤ done → count ≤ length row₀ → row ≡ begun s x y count row₀
-      finishes l fits = let all : done ≡ count = le-antisymm (u .most) l in u .laid ∙ ap (λ (n : ℕ). laid levelOf 0 n row₀) all ∙ laid-begun s x y row₀ count fits
+      finishes l fits = laid-all levelOf 0 row₀ (u .most) l (u .laid) ∙ laid-begun s x y row₀ count fits

@@ -60,11 +60,18 @@ first-append (r ∷ t) more u h = by (r .condition u) (first-append t more u (h 
     by true e = rw (ne-eqb (r .number) 0 (h .0)) refl
     by false e = e
 
-pub zero-or : (n k : ℕ) → n ≡ 0 → orElse n k ≡ k
+zero-or : (n k : ℕ) → n ≡ 0 → orElse n k ≡ k
 zero-or n k e = rw (eq-eqb n 0 e) refl
 
-pub refused-or : (n k : ℕ) → (n ≡ 0 → ⊥) → orElse n k ≡ n
+refused-or : (n k : ℕ) → (n ≡ 0 → ⊥) → orElse n k ≡ n
 refused-or n k h = rw (ne-eqb n 0 h) refl
+
+-- what a call answers, m, where it is n's part or k's that answers; r is n as the caller has it
+pub refused-by : {m r : ℕ} (n k : ℕ) → m ≡ orElse n k → r ≡ n → (r ≡ 0 → ⊥) → r ≡ m
+refused-by n k q e h = e ∙ sym (q ∙ refused-or n k (λ z. h (e ∙ z)))
+
+pub passed-by : {m r : ℕ} (n k : ℕ) → m ≡ orElse n k → r ≡ n → r ≡ 0 → k ≡ m
+passed-by n k q e h = sym (q ∙ zero-or n k (sym e ∙ h))
 
 -- both are 0
 or-zero : (n k : ℕ) → orElse n k ≡ 0 → (n ≡ 0) × (k ≡ 0)

@@ -25,8 +25,8 @@ levelIn n p = level (cellOf p) (sibson n (pieceOf p)) (pointOf p)
 unfoldable pub ceiling : ℕ → ℕ → ℕ
 ceiling n d = (n + d - 1) / d
 
--- the first offset beyond a piece, in the row of a pixel: the left piece ends where the row meets a diagonal; so do the bottom one, which the diagonal's pixel
--- does not belong to, and the top one, which it belongs to; the right one ends with the cell, whose right edge counts
+-- the first offset beyond a piece, in the row of a pixel: left and bottom end where the row meets a diagonal, whose pixel is of the next piece, with a lower
+-- number; the top one ends behind that pixel; the right one ends with the cell, whose right edge counts
 unfoldable pub endOf : Piece → Pixel → ℕ
 endOf top p = suc ((p .width * p .height - p .b * p .width) / p .height)
 endOf right p = suc (p .width)

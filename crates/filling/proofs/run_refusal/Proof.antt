@@ -5,7 +5,8 @@ use mathlib.Core.Bool.{false}
 use borrow.Author.Needs.{needs}
 use borrow.Author.Tests.{eq-eqb, ne-eqb}
 use Rattle.sheet.specs.Refusals.{offMesh, checkRefusal, Accepted}
-use Rattle.filling.proofs.Refusal.{sheet-refused, run-answer}
+use Rattle.sheet.proofs.Chains.{refused-by, run-is}
+use Rattle.filling.proofs.Refusal.{run-answer}
 use Rattle.filling.proofs.run_refusal.Statement.{statement}
 use Rattle.filling.proofs.run_refusal.Tie as tie
 
@@ -32,4 +33,4 @@ returns-4 c = run-answer _ _ _ _ (accepted (c .before .before .before)) (on-mesh
 
 pub run-refusal-spec : {M : Type 1} → statement M
 run-refusal-spec =
-    tie.close (tie.spec (λ c κs. search needs) (λ c. sheet-refused _ _ _ _ (c .before .check .ensures) (c .if1 .taken)) off-mesh-requires returns-2 returns-3 returns-4)
+    tie.close (tie.spec (λ c κs. search needs) (λ c. refused-by _ _ (run-is _ _ _ _) (c .before .check .ensures) (c .if1 .taken)) off-mesh-requires returns-2 returns-3 returns-4)

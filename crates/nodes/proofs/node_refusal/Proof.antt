@@ -2,8 +2,9 @@
 use mathlib.Core.Path.{sym, _∙_}
 use borrow.Author.Needs.{needs}
 use Rattle.sheet.specs.Refusals.{Accepted}
+use Rattle.sheet.proofs.Chains.{refused-by, lookup-is}
 use Rattle.sheet.proofs.WellFormed.{header-there}
-use Rattle.nodes.proofs.Answers.{sheet-refused, node-answer}
+use Rattle.nodes.proofs.Answers.{node-answer}
 use Rattle.nodes.proofs.node_refusal.Statement.{statement}
 use Rattle.nodes.proofs.node_refusal.Tie as tie
 
@@ -18,4 +19,4 @@ returns-3 : tie.Need-returns-3
 returns-3 c = let d = c .before .before in node-answer _ _ _ (d .before .check .ensures) (d .if1 .left) (sym (c .before .no-node .ensures) ∙ c .if2 .left)
 
 pub node-refusal-spec : {M : Type 1} → statement M
-node-refusal-spec = tie.close (tie.spec (λ c κs. search needs) (λ c. sheet-refused _ _ _ (c .before .check .ensures) (c .if1 .taken)) no-node-requires returns-2 returns-3)
+node-refusal-spec = tie.close (tie.spec (λ c κs. search needs) (λ c. refused-by _ _ (lookup-is _ _ _) (c .before .check .ensures) (c .if1 .taken)) no-node-requires returns-2 returns-3)

@@ -5,7 +5,8 @@ use mathlib.Core.Bool.{false}
 use borrow.Author.Needs.{needs}
 use borrow.Author.Tests.{lt-ltb, le-ltb}
 use Rattle.sheet.specs.Refusals.{outside, checkRefusal, Accepted}
-use Rattle.pixels.proofs.Refusal.{sheet-refused, pixel-answer}
+use Rattle.sheet.proofs.Chains.{refused-by, reading-is}
+use Rattle.pixels.proofs.Refusal.{pixel-answer}
 use Rattle.pixels.proofs.read_refusal.Statement.{statement}
 use Rattle.pixels.proofs.read_refusal.Tie as tie
 
@@ -32,4 +33,4 @@ returns-4 c = pixel-answer _ _ _ _ (accepted (c .before .before .before)) (on-me
 
 pub read-refusal-spec : {M : Type 1} → statement M
 read-refusal-spec =
-    tie.close (tie.spec (λ c κs. search needs) (λ c. sheet-refused _ _ _ _ (c .before .check .ensures) (c .if1 .taken)) outside-requires returns-2 returns-3 returns-4)
+    tie.close (tie.spec (λ c κs. search needs) (λ c. refused-by _ _ (reading-is _ _ _ _) (c .before .check .ensures) (c .if1 .taken)) outside-requires returns-2 returns-3 returns-4)
