@@ -1,6 +1,6 @@
--- What the code evaluates at a pixel: the coefficients are those of the cubic on the pixel's cell and piece, and the pixel is that cell's. Assumes nothing.
+-- The cubic that the code has for a pixel: it is the one on the pixel's cell and piece, and its readings are the pixel's. Assumes nothing.
 use Prim.Native.Nat.{ℕ}
-use mathlib.Core.Path.{_≡_, _∙_, ap, subst, subst⁻¹}
+use mathlib.Core.Path.{_≡_, refl, _∙_, ap, subst, subst⁻¹}
 use mathlib.Core.List.{List}
 use lib.IntN.{ℤ}
 use Rattle.sibson.specs.Cubic.{Cell, Cubic, Point}
@@ -14,9 +14,8 @@ use Rattle.turnings.proofs.Sizes.{piece-sized}
 use Rattle.pieces.specs.Parts.{pieceOf}
 use Rattle.pieces.proofs.Names.{piece-back}
 use Rattle.evaluation.specs.Pixels.{cellOf, pointOf, Inside}
-use Rattle.evaluation.specs.declared.Pixel.{Pixel}
 use Rattle.sheet.specs.Refusals.{Accepted}
-use Rattle.sheet.specs.WellFormed as sheet
+use Rattle.sheet.specs.WellFormed as mesh
 use Rattle.surface.specs.Place as surface
 use Rattle.surface.specs.Place.{HasCell, cellAt, pointAt, place}
 use Rattle.surface.specs.Surface.{nodesOf, setOf, cubicAt}
@@ -25,56 +24,61 @@ use Rattle.surface.proofs.Places.{has-cell}
 use Rattle.places.specs.Found.{holding}
 use Rattle.places.specs.declared.Place.{Place}
 use Rattle.places.proofs.Axes.{place-is, pixel-inside}
+use Rattle.pixels.specs.Located.{located}
+use Rattle.pixels.specs.declared.LocatedCubic.{LocatedCubic}
 
--- doubled coefficients k and a pixel p of a cell are those to evaluate at pixel (x, y)
-pub record Evaluated (s : List ℕ) (x y : ℕ) (k : List ℤ) (p : Pixel) : Type 0 where
-  pub sized : Sized k
-  pub inside : Inside p
-  pub cell : cellOf p ≡ cellAt s (place s x y)
-  pub cubic : halves k ≡ cubicAt s (place s x y)
-  pub point : pointOf p ≡ pointAt s (place s x y)
+-- c is what to evaluate at pixel (x, y)
+pub record Evaluated (s : List ℕ) (x y : ℕ) (c : LocatedCubic) : Type 0 where
+  pub sized : Sized (c .coefficients)
+  pub inside : Inside (c .pixel)
+  pub cell : cellOf (c .pixel) ≡ cellAt s (place s x y)
+  pub cubic : halves (c .coefficients) ≡ cubicAt s (place s x y)
+  pub point : pointOf (c .pixel) ≡ pointAt s (place s x y)
 
 -- a reading of what the code evaluates is that at the pixel
-pub same : {s : List ℕ} {x y : ℕ} {k : List ℤ} {p : Pixel} → Evaluated s x y k p → (f : Cell → Cubic → Point → ℤ)
-    → f (cellOf p) (halves k) (pointOf p) ≡ f (cellAt s (place s x y)) (cubicAt s (place s x y)) (pointAt s (place s x y))
+pub same : {s : List ℕ} {x y : ℕ} {c : LocatedCubic} → Evaluated s x y c → (f : Cell → Cubic → Point → ℤ)
+    → f (cellOf (c .pixel)) (halves (c .coefficients)) (pointOf (c .pixel)) ≡ f (cellAt s (place s x y)) (cubicAt s (place s x y)) (pointAt s (place s x y))
 same e f = λ t. f (e .cell t) (e .cubic t) (e .point t)
 
-module _ (s : List ℕ) (x y : ℕ) (accepted : Accepted s) (mesh : sheet.Inside s x y) {f : Place} (found : f ≡ holding s (place s x y)) where
-  -- what holds of the place holds of the one that the code has
-  of-found : (Q : Place → Type 0) → Q (holding s (place s x y)) → Q f
-  of-found Q h = subst⁻¹ Q found h
-
-  pub found-inside : Inside (f .pixel)
-  found-inside = of-found (λ g. Inside (g .pixel)) (subst (λ g. Inside (g .pixel)) (place-is s x y) (pixel-inside s accepted x y mesh))
-
-  pub found-cell : HasCell s (f .column) (f .row)
-  unfolding place holding
-  found-cell = of-found (λ g. HasCell s (g .column) (g .row)) (has-cell s accepted x y)
-
+module _ (s : List ℕ) (x y : ℕ) (accepted : Accepted s) (inside : mesh.Inside s x y) where
   -- the corner numbers of the cell that the code has
-  abbrev pub numbersOf : Place → CornerNumbers
+  abbrev numbersOf : Place → CornerNumbers
   numbersOf g = cornerNumbers (cell (g .pixel .width) (g .pixel .height)) (nodesOf s (g .column) (g .row))
 
-  module _ {n : List (List ℤ)} (corner : n ≡ arrays (numbersOf f)) where
-    pub numbers-in : AllWithin largest (corners n)
-    unfolding place holding surface.cellOf
-    numbers-in = subst⁻¹ (AllWithin largest) (held _ corner) (of-found (λ g. AllWithin largest (numbersOf g)) (numbers-within s accepted _ _ (has-cell s accepted x y)))
+  pixel-in-cell : Inside (holding s (place s x y) .pixel)
+  pixel-in-cell = subst (λ g. Inside (g .pixel)) (place-is s x y) (pixel-inside s accepted x y inside)
 
-    -- the cubic that the code has
-    cubic-is : {k : List ℤ} → k ≡ listed (sibson (corners n) (pieceOf (f .piece))) → halves k ≡ cubicAt s (place s x y)
-    unfolding holding surface.cellOf setOf element
-    cubic-is e =
-        ap halves e ∙ joined .back (corners n) (pieceOf (f .piece))
-        ∙ (λ t. sibson (held _ corner t) (pieceOf (f .piece)))
-        ∙ ap (λ g. sibson (numbersOf g) (pieceOf (g .piece))) found
-        ∙ ap (sibson _) (piece-back (place s x y .piece))
+  all-within : AllWithin largest (numbersOf (holding s (place s x y)))
+  unfolding place holding surface.cellOf
+  all-within = numbers-within s accepted _ _ (has-cell s accepted x y)
 
-    pub evaluated : {k : List ℤ} → k ≡ listed (sibson (corners n) (pieceOf (f .piece))) → Evaluated s x y k (f .pixel)
-    unfolding holding surface.cellOf
-    evaluated e = record {
-      sized = piece-sized (corners n) numbers-in (pieceOf (f .piece)) e;
-      inside = found-inside;
-      cell = ap (λ (g : Place). cellOf (g .pixel)) found;
-      cubic = cubic-is e;
-      point = ap (λ (g : Place). pointOf (g .pixel)) found;
-    }
+  pub evaluated : {c : LocatedCubic} → c ≡ located s (place s x y) → Evaluated s x y c
+  unfolding located holding surface.cellOf setOf element
+  evaluated e =
+      let n = numbersOf (holding s (place s x y)) in let k = place s x y .piece in
+      subst⁻¹ (Evaluated s x y) e
+      (record { sized = piece-sized n all-within k refl; inside = pixel-in-cell; cell = refl; cubic = joined .back n k; point = refl })
+
+  -- ---- from the place that the code has found
+
+  module _ {f : Place} (found : f ≡ holding s (place s x y)) where
+    pub found-inside : Inside (f .pixel)
+    found-inside = subst⁻¹ (λ (g : Place). Inside (g .pixel)) found pixel-in-cell
+
+    pub found-cell : HasCell s (f .column) (f .row)
+    unfolding place holding
+    found-cell = subst⁻¹ (λ (g : Place). HasCell s (g .column) (g .row)) found (has-cell s accepted x y)
+
+    module _ {n : List (List ℤ)} (corner : n ≡ arrays (numbersOf f)) where
+      numbers-are : corners n ≡ numbersOf (holding s (place s x y))
+      numbers-are = held _ corner ∙ ap numbersOf found
+
+      pub numbers-in : AllWithin largest (corners n)
+      numbers-in = subst⁻¹ (AllWithin largest) numbers-are all-within
+
+      pub located-is : {k : List ℤ} → k ≡ listed (sibson (corners n) (pieceOf (f .piece))) → record { coefficients = k; pixel = f .pixel } ≡ located s (place s x y)
+      unfolding located holding surface.cellOf setOf element
+      located-is e =
+          let piece = ap (λ (g : Place). pieceOf (g .piece)) found ∙ piece-back (place s x y .piece) in
+          let cubic = e ∙ (λ t. listed (sibson (numbers-are t) (piece t))) in
+          λ t. record { coefficients = cubic t; pixel = found t .pixel }

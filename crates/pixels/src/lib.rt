@@ -4,9 +4,13 @@ ghost use mathlib.Core.List.{[], _∷_};
 ghost use Rattle.readings.specs.Reading.{level, tiltX, tiltY, bendXX, bendXY, bendYY};
 ghost use Rattle.turnings.specs.Doubled.{halves, Sized};
 ghost use Rattle.evaluation.specs.Pixels.{cellOf, pointOf, Inside};
-ghost use Rattle.sheet.specs.Refusals.{readingRefusal};
+ghost use Rattle.sheet.specs.Refusals.{readingRefusal, Accepted};
+ghost use Rattle.sheet.specs.WellFormed as mesh;
 ghost use Rattle.answers.specs.Answers.{outcome, answered, Small};
+ghost use Rattle.surface.specs.Place.{place};
+ghost use Rattle.surface.specs.Surface as surface;
 ghost use Rattle.surface.specs.Read.{numbers, read};
+ghost use Rattle.pixels.specs.Located.{located};
 use answers::Answer;
 use answers::BendReading;
 use answers::LevelReading;
@@ -15,6 +19,12 @@ use checking::check;
 use evaluation::Pixel;
 use places::find;
 use places::outside;
+
+// The cubic that a pixel is read from, by its doubled coefficients, and the pixel in its cell.
+struct LocatedCubic {
+    coefficients: [i64; 10],
+    pixel: Pixel,
+}
 
 // What the light board asks: kind 0 is the level, 1 the tilt, 2 the bend.
 pub fn read(sheet: &[u8], x: u32, y: u32, kind: u32) -> Answer
@@ -25,6 +35,21 @@ pub fn read(sheet: &[u8], x: u32, y: u32, kind: u32) -> Answer
         return Answer::Refused(refusal);
     }
     reading(sheet, x, y, kind)
+}
+
+// The level and the tilt along x and y at a pixel of the mesh, as whole numbers.
+pub fn level_and_tilt(sheet: &[u8], x: u32, y: u32) -> [i64; 3]
+    requires { ⌜ Accepted (now sheet) × mesh.Inside (now sheet) x y ⌝ }
+    ensures { λ r. ⌜ r ≡ surface.level (now (sheet .entry)) x y ∷ surface.tiltX (now (sheet .entry)) x y ∷ surface.tiltY (now (sheet .entry)) x y ∷ [] ⌝ }
+{
+    let cubic = locate(sheet, x, y);
+    let k = cubic.coefficients;
+    let p = cubic.pixel;
+    [
+        evaluation::level(k, p),
+        evaluation::tilt_x(k, p),
+        evaluation::tilt_y(k, p),
+    ]
 }
 
 // The number that refuses the reading, or 0.
@@ -44,16 +69,14 @@ fn read_refusal(sheet: &[u8], x: u32, y: u32, kind: u32) -> u32
     0
 }
 
-// A reading that is not refused: from the cubic on the pixel's cell and piece.
+// A reading that is not refused.
 fn reading(sheet: &[u8], x: u32, y: u32, kind: u32) -> Answer
     requires { ⌜ readingRefusal (now sheet) x y kind ≡ 0 ⌝ }
     ensures { λ r. ⌜ outcome r ≡ answered kind (numbers (now (sheet .entry)) x y kind) ⌝ }
 {
-    let place = find(sheet, x, y);
-    let p = place.pixel;
-    let piece = place.piece;
-    let n = cells::corner_numbers(sheet, place.column, place.row, p.width, p.height);
-    let k = pieces::coefficients(n, piece);
+    let cubic = locate(sheet, x, y);
+    let k = cubic.coefficients;
+    let p = cubic.pixel;
     if kind == 0 {
         return level(k, p);
     }
@@ -61,6 +84,21 @@ fn reading(sheet: &[u8], x: u32, y: u32, kind: u32) -> Answer
         return tilt(k, p);
     }
     bend(k, p)
+}
+
+// The cubic on the pixel's cell and piece.
+fn locate(sheet: &[u8], x: u32, y: u32) -> LocatedCubic
+    requires { ⌜ Accepted (now sheet) × mesh.Inside (now sheet) x y ⌝ }
+    ensures { λ r. ⌜ r ≡ located (now (sheet .entry)) (place (now (sheet .entry)) x y) ⌝ }
+{
+    let place = find(sheet, x, y);
+    let p = place.pixel;
+    let piece = place.piece;
+    let n = cells::corner_numbers(sheet, place.column, place.row, p.width, p.height);
+    LocatedCubic {
+        coefficients: pieces::coefficients(n, piece),
+        pixel: p,
+    }
 }
 
 // Of the cubic with these doubled coefficients: the level, the tilt along x and y, the bend along x, mixed and along y.

@@ -46,12 +46,12 @@ module _ (s : List ℕ) (x y : ℕ) (accepted : Accepted s) (inside : Inside s x
   pub small-level : Small (level s x y)
   small-level = small (level s x y) level-below (lit≤ tt)
 
-  pub small-tilts : Small (tiltX s x y) × Small (tiltY s x y)
+  pub tilts-below : (natAbs (tiltX s x y) < 2 ^ 27) × (natAbs (tiltY s x y) < 2 ^ 27)
   unfolding element setOf tiltX tiltY tiltXAt tiltYAt
-  small-tilts = (
-    small (tiltX s x y) (bounds .tiltsX C n all-within (p .piece) (pointAt s p) (on-piece .inCell)) (lit≤ tt),
-    small (tiltY s x y) (bounds .tiltsY C n all-within (p .piece) (pointAt s p) (on-piece .inCell)) (lit≤ tt),
-  )
+  tilts-below = (bounds .tiltsX C n all-within (p .piece) (pointAt s p) (on-piece .inCell), bounds .tiltsY C n all-within (p .piece) (pointAt s p) (on-piece .inCell))
+
+  pub small-tilts : Small (tiltX s x y) × Small (tiltY s x y)
+  small-tilts = (small (tiltX s x y) (tilts-below .0) (lit≤ tt), small (tiltY s x y) (tilts-below .1) (lit≤ tt))
 
   pub small-bends : Small (bendXX s x y) × Small (bendXY s x y) × Small (bendYY s x y)
   unfolding element setOf bendXX bendXY bendYY bendXXAt bendXYAt bendYYAt

@@ -9,36 +9,19 @@ use Rattle.surface.specs.Surface.{levelAt, tiltXAt, tiltYAt, bendXXAt, bendXYAt
 use Rattle.surface.specs.Read.{numbers}
 use Rattle.surface.proofs.Sizes.{small-level, small-tilts, small-bends}
 use Rattle.pixels.proofs.ByKind.{kind-bend}
-use Rattle.pixels.proofs.Cubics.{Evaluated, same, found-inside, found-cell, numbers-in, evaluated}
+use Rattle.pixels.proofs.Cubics.{Evaluated, same, evaluated}
 use Rattle.pixels.proofs.reading.Statement.{statement}
 use Rattle.pixels.proofs.reading.Tie as tie
 
 held : (s : tie.Start) → HasPixel (now (s .args .sheet)) (s .args .x) (s .args .y) (s .args .kind)
 held s = reading-held _ _ _ _ (s .pre)
 
-find-requires : tie.Need-find-requires
-find-requires c κs = let h = held (c .before) in (h .accepted, h .inside)
-
-corner-numbers-requires : tie.Need-corner-numbers-requires
-corner-numbers-requires c κs =
-    let d = c .before in let h = held (d .before .before) in
-    let i = found-inside _ _ _ (h .accepted) (h .inside) (d .find .ensures) in
-    (h .accepted, found-cell _ _ _ (h .accepted) (h .inside) (d .find .ensures), i .width, i .height)
-
-coefficients-requires : tie.Need-coefficients-requires
-coefficients-requires c κs =
-    let d = c .before .before in let h = held (d .before .before) in
-    numbers-in _ _ _ (h .accepted) (h .inside) (d .find .ensures) (c .corner-numbers .ensures)
-
-evaluates : (c : tie.After-coefficients) → let s = c .before .before .before .before .before in
-    Evaluated (now (s .args .sheet)) (s .args .x) (s .args .y) (c .coefficients .result) (c .before .before .before .find .result .pixel)
-evaluates c =
-    let n = c .before in let d = n .before .before in let h = held (d .before .before) in
-    evaluated _ _ _ (h .accepted) (h .inside) (d .find .ensures) (n .corner-numbers .ensures) (c .coefficients .ensures)
+evaluates : (c : tie.After-p) → let s = c .before .before .before .before in Evaluated (now (s .args .sheet)) (s .args .x) (s .args .y) (c .before .before .locate .result)
+evaluates c = let d = c .before .before in let h = held (d .before .before) in evaluated _ _ _ (h .accepted) (h .inside) (d .locate .ensures)
 
 level-requires : tie.Need-level-requires
 unfolding level levelAt
-level-requires c κs = let d = c .before in let e = evaluates d in let h = held (d .before .before .before .before .before) in
+level-requires c κs = let d = c .before in let e = evaluates d in let h = held (d .before .before .before .before) in
     (e .sized, e .inside, subst⁻¹ Small (same e reading.level) (small-level _ _ _ (h .accepted) (h .inside)))
 
 returns : tie.Need-returns
@@ -48,7 +31,7 @@ returns c = let i = c .before in let e = evaluates (i .before) in
 
 tilt-requires : tie.Need-tilt-requires
 unfolding tiltX tiltY tiltXAt tiltYAt
-tilt-requires c κs = let d = c .before .before in let e = evaluates d in let h = held (d .before .before .before .before .before) in
+tilt-requires c κs = let d = c .before .before in let e = evaluates d in let h = held (d .before .before .before .before) in
     let t = small-tilts _ _ _ (h .accepted) (h .inside) in
     (e .sized, e .inside, subst⁻¹ Small (same e reading.tiltX) (t .0), subst⁻¹ Small (same e reading.tiltY) (t .1))
 
@@ -59,7 +42,7 @@ returns-2 c = let i = c .before in let e = evaluates (i .before .before) in
 
 bend-requires : tie.Need-bend-requires
 unfolding bendXX bendXY bendYY bendXXAt bendXYAt bendYYAt
-bend-requires c κs = let d = c .before .before in let e = evaluates d in let h = held (d .before .before .before .before .before) in
+bend-requires c κs = let d = c .before .before in let e = evaluates d in let h = held (d .before .before .before .before) in
     let b = small-bends _ _ _ (h .accepted) (h .inside) in
     (e .sized, e .inside, subst⁻¹ Small (same e reading.bendXX) (b .0), subst⁻¹ Small (same e reading.bendXY) (b .1), subst⁻¹ Small (same e reading.bendYY) (b .2))
 
@@ -73,9 +56,7 @@ pub reading-spec : {M : Type 1} → statement M
 reading-spec =
     tie.close
     (tie.spec
-    find-requires
-    corner-numbers-requires
-    coefficients-requires
+    (λ c κs. let h = held (c .before) in (h .accepted, h .inside))
     level-requires
     returns
     tilt-requires

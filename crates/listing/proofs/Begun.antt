@@ -1,0 +1,80 @@
+-- A row's text pixel by pixel: what is written when the pixels left of x are done, and that there is room for all. Assumes nothing.
+use Prim.Native.Nat.{ℕ, zero, suc, _+_, _*_, _-_, _≤_, _<_}
+use mathlib.Core.Path.{_≡_, refl, _∙_, ap, subst, subst⁻¹}
+use mathlib.Core.List.{List, _++_}
+use native.Mathlib.Nat.{mul-suc}
+use native.Mathlib.Omega.{arith}
+use lib.ListN.{length, length-append}
+use Rattle.words.proofs.Replaced.{replaced-length}
+use Rattle.sheet.specs.Refusals.{Accepted}
+use Rattle.sheet.specs.WellFormed.{Inside}
+use Rattle.text.proofs.Written.{Written, both-written}
+use Rattle.listing.specs.Listing.{sequence, firstX, lastX, firstY, lastY, pixelLine, rowText, lineRoom, rowRoom}
+use Rattle.listing.proofs.Lengths.{line-fits}
+use Rattle.listing.proofs.OuterLines.{last-x-near, x-in-order}
+
+-- texts one after the other, of m bytes at most
+sequence-length : (f : ℕ → List ℕ) (m n : ℕ) → ((k : ℕ) → k < n → length (f k) ≤ m) → length (sequence f n) ≤ m * n
+unfolding sequence
+sequence-length f m zero h = omega arith
+sequence-length f m (suc n) h =
+    rw (length-append (sequence f n) (f n), mul-suc m n) (omega (arith, sequence-length f m n (λ k l. h k (omega arith)), h n (omega arith)))
+
+-- the lines of the pixels left of x
+abbrev until : List ℕ → ℕ → ℕ → List ℕ
+until s y x = sequence (λ k. pixelLine s (firstX s + k) y) (x - firstX s)
+
+until-more : (s : List ℕ) (y x : ℕ) → firstX s ≤ x → until s y (x + 1) ≡ until s y x ++ pixelLine s x y
+unfolding sequence
+until-more s y x h =
+    let next : x + 1 - firstX s ≡ suc (x - firstX s) = omega arith in
+    let there : firstX s + (x - firstX s) ≡ x = omega arith in
+    rw next (ap (λ k. until s y x ++ pixelLine s k y) there)
+
+-- out is the row's buffer when the pixels left of x are done, and `end` the index behind their lines
+pub record Begun (s : List ℕ) (y : ℕ) (buffer : List ℕ) (x : ℕ) (out : List ℕ) (end : ℕ) : Type 0 where
+  pub from : firstX s ≤ x
+  pub to : x ≤ lastX s + 1
+  pub written : Written buffer 0 (until s y x) out end
+
+module _ (s : List ℕ) (y : ℕ) (accepted : Accepted s) (top : firstY s ≤ y) (bottom : y ≤ lastY s) where
+  pub on-row : (x : ℕ) → firstX s ≤ x → x ≤ lastX s → Inside s x y
+  on-row x h l = record { left = h; right = l; top = top; bottom = bottom }
+
+  until-fits : (x : ℕ) → x ≤ lastX s + 1 → length (until s y x) ≤ lineRoom * (x - firstX s)
+  until-fits x h =
+      sequence-length (λ k. pixelLine s (firstX s + k) y) lineRoom (x - firstX s)
+      (λ k l. line-fits s (firstX s + k) y accepted (on-row (firstX s + k) (omega arith) (omega arith)))
+
+  pub row-fits : length (rowText s y) ≤ rowRoom
+  unfolding rowText
+  row-fits = omega (arith, until-fits (lastX s + 1) (omega arith), last-x-near s accepted)
+
+  module _ (buffer : List ℕ) (room : rowRoom ≤ length buffer) where
+    pub starts : Begun s y buffer (firstX s) buffer 0
+    unfolding sequence
+    starts =
+        let none : firstX s - firstX s ≡ 0 = omega arith in
+        record { from = omega arith; to = omega (arith, x-in-order s accepted); written = rw none (refl, refl) }
+
+    module _ {x : ℕ} {out : List ℕ} {end : ℕ} (begun : Begun s y buffer x out end) where
+      pub length-kept : length out ≡ length buffer
+      length-kept = ap length (begun .written .1) ∙ replaced-length buffer 0 (until s y x) (omega (arith, until-fits x (begun .to), last-x-near s accepted))
+
+      -- there is room for the line of pixel x
+      pub line-room : x ≤ lastX s → end + lineRoom ≤ length out
+      line-room h = omega (arith, begun .written .0, length-kept, until-fits x (begun .to), last-x-near s accepted)
+
+      pub goes-on : x ≤ lastX s → {next : List ℕ} {after : ℕ} → Written out end (pixelLine s x y) next after → Begun s y buffer (x + 1) next after
+      goes-on h {next} {after} w =
+          let more = until-more s y x (begun .from) in
+          let fits = subst (λ b. 0 + length b ≤ length buffer) more (omega (arith, until-fits (x + 1) (omega arith), last-x-near s accepted)) in
+          record {
+            from = omega (arith, begun .from);
+            to = omega arith;
+            written = subst⁻¹ (λ b. Written buffer 0 b next after) more (both-written buffer 0 (until s y x) (pixelLine s x y) fits (begun .written) w);
+          }
+
+      pub done : lastX s < x → Written buffer 0 (rowText s y) out end
+      unfolding rowText
+      done h = let last : x ≡ lastX s + 1 = omega (arith, begun .to) in rw (← last) (begun .written)

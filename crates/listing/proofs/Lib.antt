@@ -1,0 +1,4 @@
+pub mod Begun
+pub mod Lengths
+pub mod OuterLines
+pub mod Worked
