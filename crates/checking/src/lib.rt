@@ -4,7 +4,7 @@ ghost use mathlib.Core.Bool.{false, not};
 ghost use Prim.Native.Nat.{_+_, _*_, _≤_, _<_};
 ghost use lib.ListN.{length};
 ghost use Rattle.words.specs.Word.{wordAt, signed};
-ghost use Rattle.sheet.specs.Format.{headerSize, columns, rows, countIn, slopeIn, nodeSize, nodesOffset, nodeOffset, sizeOf};
+ghost use Rattle.sheet.specs.Format.{headerSize, columns, rows, lineX, lineY, countIn, slopeIn, nodeSize, nodesOffset, nodeOffset, sizeOf};
 ghost use Rattle.sheet.specs.Refusals.{some, otherMark, otherVersion, otherCounts, otherLength, wrongStep, wrongLine, wrongLines, wrongNodes, checkRefusal, Accepted};
 use words::wide;
 use words::word;
@@ -142,6 +142,22 @@ fn in_range(bits: u32) -> bool
     ensures { λ r. ⌜ r ≡ slopeIn (signed bits) ⌝ }
 {
     (bits <= 4095) | (61441 <= bits)
+}
+
+// The position of a vertical line.
+pub fn line_x(sheet: &[u8], i: usize) -> u32
+    requires { ⌜ Accepted (now sheet) × (i < columns (now sheet)) ⌝ }
+    ensures { λ r. ⌜ r ≡ lineX (now (sheet .entry)) i ⌝ }
+{
+    word(sheet, HEADER_SIZE + 2 * i)
+}
+
+// The position of a horizontal line.
+pub fn line_y(sheet: &[u8], j: usize) -> u32
+    requires { ⌜ Accepted (now sheet) × (j < rows (now sheet)) ⌝ }
+    ensures { λ r. ⌜ r ≡ lineY (now (sheet .entry)) j ⌝ }
+{
+    word(sheet, HEADER_SIZE + 2 * columns(sheet) + 2 * j)
 }
 
 // Where the nodes start.

@@ -6,10 +6,9 @@ use native.Mathlib.Omega.{arith}
 use lib.IntN.{ℤ}
 use lib.ListN.{take, drop}
 use lib.Seq.{take-at}
-use Rattle.sheet.specs.Format.{columns}
 use Rattle.sheet.proofs.Chains.{HasRun}
 use Rattle.surface.specs.Run.{levelsAlong, begun}
-use Rattle.surface.proofs.Cells.{sound}
+use Rattle.surface.proofs.Cells.{last-x-near}
 use Rattle.surface.proofs.Runs.{levels-length}
 use Rattle.runs.specs.Strips.{OnMesh}
 
@@ -18,8 +17,7 @@ module _ {s : List ℕ} {x y count : ℕ} (h : HasRun s x y count) where
   on-mesh = record { accepted = h .accepted; first = h .first; each = h .each }
 
   pub run-short : count ≤ 4097
-  run-short = let w = sound s (h .accepted) in
-      let last = h .each (count - 1) (omega (arith, h .nonempty)) .right in let near = w .risingX .near (columns s - 1) (omega (arith, w .fewColumns)) in omega arith
+  run-short = let last = h .each (count - 1) (omega (arith, h .nonempty)) .right in omega (arith, last-x-near s (h .accepted))
 
 pub first-places : (s : List ℕ) (x y count : ℕ) (row : List ℤ) → take count (begun s x y count row) ≡ levelsAlong s x y count
 unfolding begun

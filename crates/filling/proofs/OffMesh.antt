@@ -9,7 +9,7 @@ use lib.Dec.{ltb}
 use borrow.Author.Tests.{lt-ltb, eq-eqb, ne-eqb}
 use Rattle.sheet.specs.Format.{columns, rows, lineX, lineY}
 use Rattle.sheet.specs.Refusals.{outside, offMesh, Accepted}
-use Rattle.surface.proofs.Cells.{sound}
+use Rattle.surface.proofs.Cells.{last-x-near}
 
 module _ (s : List ℕ) (x y count : ℕ) where
   pub first-off : outside s x y ≡ true → true ≡ offMesh s x y count
@@ -33,7 +33,7 @@ module _ (s : List ℕ) (accepted : Accepted s) where
   -- no pixel of the mesh lies beyond 4,096
   pub far-off : (x y : ℕ) → 4096 < x → outside s x y ≡ true
   unfolding outside
-  far-off x y h = let w = sound s accepted in let last = w .risingX .near (columns s - 1) (omega (arith, w .fewColumns)) in
+  far-off x y h = let last = last-x-near s accepted in
       either (ltb x (lineX s 0)) (ltb (lineX s (columns s - 1)) x) (ltb y (lineY s 0)) (ltb (lineY s (rows s - 1)) y) (lt-ltb (lineX s (columns s - 1)) x (omega arith))
 
   -- so one of the mesh fits 32 bits with a row's length added

@@ -8,10 +8,11 @@ use lib.ListN.{length, length-append}
 use Rattle.words.proofs.Replaced.{replaced-length}
 use Rattle.sheet.specs.Refusals.{Accepted}
 use Rattle.sheet.specs.WellFormed.{Inside}
+use Rattle.surface.proofs.Cells.{sound, last-x-near}
+use Rattle.surface.proofs.Places.{node-inside}
 use Rattle.text.proofs.Written.{Written, both-written}
 use Rattle.listing.specs.Listing.{sequence, firstX, lastX, firstY, lastY, pixelLine, rowText, lineRoom, rowRoom}
 use Rattle.listing.proofs.Lengths.{line-fits}
-use Rattle.listing.proofs.OuterLines.{last-x-near, x-in-order}
 
 -- texts one after the other, of m bytes at most
 sequence-length : (f : ℕ → List ℕ) (m n : ℕ) → ((k : ℕ) → k < n → length (f k) ≤ m) → length (sequence f n) ≤ m * n
@@ -41,6 +42,9 @@ module _ (s : List ℕ) (y : ℕ) (accepted : Accepted s) (top : firstY s ≤ y)
   pub on-row : (x : ℕ) → firstX s ≤ x → x ≤ lastX s → Inside s x y
   on-row x h l = record { left = h; right = l; top = top; bottom = bottom }
 
+  x-in-order : firstX s ≤ lastX s
+  x-in-order = let w = sound s accepted in node-inside s accepted 0 0 (omega (arith, w .fewColumns)) (omega (arith, w .fewRows)) .right
+
   until-fits : (x : ℕ) → x ≤ lastX s + 1 → length (until s y x) ≤ lineRoom * (x - firstX s)
   until-fits x h =
       sequence-length (λ k. pixelLine s (firstX s + k) y) lineRoom (x - firstX s)
@@ -55,7 +59,7 @@ module _ (s : List ℕ) (y : ℕ) (accepted : Accepted s) (top : firstY s ≤ y)
     unfolding sequence
     starts =
         let none : firstX s - firstX s ≡ 0 = omega arith in
-        record { from = omega arith; to = omega (arith, x-in-order s accepted); written = rw none (refl, refl) }
+        record { from = omega arith; to = omega (arith, x-in-order); written = rw none (refl, refl) }
 
     module _ {x : ℕ} {out : List ℕ} {end : ℕ} (begun : Begun s y buffer x out end) where
       pub length-kept : length out ≡ length buffer

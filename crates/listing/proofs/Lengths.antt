@@ -9,11 +9,11 @@ use lib.ListN.{length, length-append}
 use Rattle.sheet.specs.Refusals.{Accepted}
 use Rattle.sheet.specs.WellFormed.{Inside}
 use Rattle.surface.specs.Surface.{level, tiltX, tiltY}
+use Rattle.surface.proofs.Cells.{last-x-near, last-y-near}
 use Rattle.surface.proofs.Sizes.{level-below, tilts-below}
 use Rattle.text.specs.Text.{blank, newline, field, line}
 use Rattle.text.proofs.Lengths.{field-length}
 use Rattle.listing.specs.Listing.{pixelLine, lineRoom}
-use Rattle.listing.proofs.OuterLines.{last-x-near, last-y-near}
 
 module _ (s : List ℕ) (x y : ℕ) (accepted : Accepted s) (inside : Inside s x y) where
   x-length : length (field (pos x) blank) ≤ 6

@@ -1,4 +1,3 @@
 pub mod Begun
 pub mod Lengths
-pub mod OuterLines
 pub mod Worked

@@ -8,10 +8,10 @@ ghost use Rattle.words.specs.Word.{replaced};
 ghost use Rattle.sheet.specs.Refusals.{Accepted};
 ghost use Rattle.sheet.specs.WellFormed.{Inside};
 ghost use Rattle.listing.specs.Listing.{firstX, lastX, firstY, lastY, pixelLine, rowText, lineRoom, rowRoom};
-use checking::HEADER_SIZE;
 use checking::columns;
+use checking::line_x;
+use checking::line_y;
 use checking::rows;
-use words::word;
 
 // How many bytes a row's text takes at most: 64 for each of 4,097 pixels.
 pub const ROW_ROOM: usize = 262208;
@@ -47,29 +47,26 @@ fn first_column(sheet: &[u8]) -> u32
     requires { ⌜ Accepted (now sheet) ⌝ }
     ensures { λ r. ⌜ r ≡ firstX (now (sheet .entry)) ⌝ }
 {
-    word(sheet, HEADER_SIZE)
+    line_x(sheet, 0)
 }
 
 fn last_column(sheet: &[u8]) -> u32
     requires { ⌜ Accepted (now sheet) ⌝ }
     ensures { λ r. ⌜ r ≡ lastX (now (sheet .entry)) ⌝ }
 {
-    word(sheet, HEADER_SIZE + 2 * (columns(sheet) - 1))
+    line_x(sheet, columns(sheet) - 1)
 }
 
 pub fn first_row(sheet: &[u8]) -> u32
     requires { ⌜ Accepted (now sheet) ⌝ }
     ensures { λ r. ⌜ r ≡ firstY (now (sheet .entry)) ⌝ }
 {
-    word(sheet, HEADER_SIZE + 2 * columns(sheet))
+    line_y(sheet, 0)
 }
 
 pub fn last_row(sheet: &[u8]) -> u32
     requires { ⌜ Accepted (now sheet) ⌝ }
     ensures { λ r. ⌜ r ≡ lastY (now (sheet .entry)) ⌝ }
 {
-    word(
-        sheet,
-        HEADER_SIZE + 2 * columns(sheet) + 2 * (rows(sheet) - 1),
-    )
+    line_y(sheet, rows(sheet) - 1)
 }

@@ -9,14 +9,14 @@ use borrow.Author.Tests.{eq-eqb, ne-eqb}
 use Rattle.sheet.specs.Format.{columns, lineX}
 use Rattle.surface.specs.Place.{HasCell, columnAt}
 use Rattle.surface.proofs.Along.{along-starts, along-last, along-in, axis-cell, axis-ends}
-use Rattle.surface.proofs.Cells.{sound, x-rising}
+use Rattle.surface.proofs.Cells.{sound, x-rising, last-x-near}
 use Rattle.runs.specs.Strips.{doneIn, OnStrip}
 use Rattle.runs.specs.declared.Strip.{Strip}
 
 module _ (s : List ℕ) (t : Strip) (x count : ℕ) (on : OnStrip s t x count) (done : ℕ) (more : done < count) (column : ℕ) (here : column ≡ columnAt s (x + done)) where
   -- no pixel of a run lies beyond the last line
   pub run-near : x + count ≤ 4097
-  run-near = let w = sound s (on .accepted) in let last = w .risingX .near (columns s - 1) (omega (arith, w .fewColumns)) in omega (arith, on .to)
+  run-near = omega (arith, on .to, last-x-near s (on .accepted))
 
   -- both lines of the column are lines of the sheet
   column-there : suc column < columns s

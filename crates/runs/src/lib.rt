@@ -9,13 +9,12 @@ ghost use Rattle.surface.specs.Run.{begun};
 ghost use Rattle.spans.specs.Span.{laid};
 ghost use Rattle.runs.specs.Strips.{levelOn, doneIn, OnMesh, OnStrip};
 use cells::corner_numbers;
-use checking::HEADER_SIZE;
 use checking::columns;
+use checking::line_x;
 use evaluation::Pixel;
 use places::find;
 use spans::fill_cell;
 use spans::least;
-use words::word;
 
 // The cells that a row of pixels lies in: their row, the pixels' offset from their top edge, their height.
 pub struct Strip {
@@ -58,8 +57,8 @@ fn fill_column(
     ensures answer { λ r. ⌜ r ≡ doneIn (now (sheet .entry)) x column count ⌝ }
     ensures row { λ r. ⌜ now (row .exit) ≡ laid (λ k. levelOn (now (sheet .entry)) strip (x + (done + k))) done (r - done) (now (row .entry)) ⌝ }
 {
-    let left = line_x(sheet, column);
-    let width = line_x(sheet, column + 1) - left;
+    let left = line_x(sheet, column) as usize;
+    let width = line_x(sheet, column + 1) as usize - left;
     let end = done_in(sheet, column, x, count);
     let n = corner_numbers(sheet, column, strip.row, width, strip.height);
     let next = Pixel {
@@ -80,13 +79,5 @@ fn done_in(sheet: &[u8], column: usize, x: usize, count: usize) -> usize
     if column + 2 == columns(sheet) {
         return count;
     }
-    least(count, line_x(sheet, column + 1) - x)
-}
-
-// The position of a vertical line.
-fn line_x(sheet: &[u8], i: usize) -> usize
-    requires { ⌜ Accepted (now sheet) × (i < columns (now sheet)) ⌝ }
-    ensures { λ r. ⌜ r ≡ lineX (now (sheet .entry)) i ⌝ }
-{
-    word(sheet, HEADER_SIZE + 2 * i) as usize
+    least(count, line_x(sheet, column + 1) as usize - x)
 }

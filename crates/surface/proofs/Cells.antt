@@ -1,5 +1,5 @@
 -- The cells of an accepted sheet are 1 to 64 pixels wide and high, and their nodes' numbers are in range. Assumes nothing.
-use Prim.Native.Nat.{ℕ, suc, _+_, _-_, _<_}
+use Prim.Native.Nat.{ℕ, suc, _+_, _-_, _≤_, _<_}
 use mathlib.Core.Path.{_≡_, _∙_, ap}
 use mathlib.Core.List.{List}
 use native.Mathlib.Omega.{arith}
@@ -45,6 +45,13 @@ module _ (s : List ℕ) (accepted : Accepted s) where
 
   pub y-rising : Rising (lineY s) (rows s)
   y-rising = sound .risingY
+
+  -- no line lies beyond 4,096
+  pub last-x-near : lineX s (columns s - 1) ≤ 4096
+  last-x-near = x-rising .near (columns s - 1) (omega (arith, sound .fewColumns))
+
+  pub last-y-near : lineY s (rows s - 1) ≤ 4096
+  last-y-near = y-rising .near (rows s - 1) (omega (arith, sound .fewRows))
 
   -- a node's numbers are in range
   number-in : (i j : ℕ) → i < columns s → j < rows s → JetIn (nodeNumbers s i j)

@@ -6,7 +6,7 @@ use native.Mathlib.Omega.{arith}
 use borrow.Author.Needs.{needs}
 use lib.ListN.{length}
 use Rattle.listing.specs.Listing.{firstY, lastY}
-use Rattle.listing.proofs.OuterLines.{last-y-near}
+use Rattle.surface.proofs.Cells.{last-y-near}
 use Rattle.levels.proofs.print_rows.Statement.{statement}
 use Rattle.levels.proofs.print_rows.Tie as tie
 

@@ -1,22 +1,22 @@
 -- `listing::last_column` meets its contract. Assumes nothing.
-use mathlib.Core.Path.{refl, _∙_}
+use denote.Ref.{now}
+use Prim.Native.Nat.{ℕ, _-_}
+use mathlib.Core.Path.{_∙_, ap}
 use native.Mathlib.Omega.{arith}
-use borrow.Author.Needs.{needs}
+use Rattle.sheet.specs.Format.{lineX}
 use Rattle.sheet.proofs.WellFormed.{header-there}
 use Rattle.surface.proofs.Cells.{sound}
-use Rattle.listing.proofs.OuterLines.{last-x-there}
 use Rattle.listing.proofs.last_column.Statement.{statement}
 use Rattle.listing.proofs.last_column.Tie as tie
 
-sub-word : tie.Need-sub-word
-sub-word c = omega (arith, c .columns .ensures .0, sound _ (c .before .before .pre) .fewColumns)
+sub-line-x : tie.Need-sub-line-x
+sub-line-x c = omega (arith, c .columns .ensures .0, sound _ (c .before .before .pre) .fewColumns)
 
-word-requires : tie.Need-word-requires
-word-requires c κs = rw (c .columns .ensures .0) (last-x-there _ (c .before .before .pre))
+line-x-requires : tie.Need-line-x-requires
+line-x-requires c κs = let p = c .before .before .pre in (p, omega (arith, c .columns .ensures .0, sound _ p .fewColumns))
 
 returns : tie.Need-returns
-returns c = c .word .ensures .0 ∙ rw (c .before .columns .ensures .0) refl
+returns c = let s = c .before .before .before in c .line-x .ensures ∙ ap (λ (n : ℕ). lineX (now (s .args .sheet)) (n - 1)) (c .before .columns .ensures .0)
 
 pub last-column-spec : {M : Type 1} → statement M
-last-column-spec =
-    tie.close (tie.spec (λ c κs. header-there _ (c .before .pre)) sub-word (λ c. search needs) (λ c. search needs) word-requires returns)
+last-column-spec = tie.close (tie.spec (λ c κs. header-there _ (c .before .pre)) sub-line-x line-x-requires returns)

@@ -5,9 +5,9 @@ use mathlib.Core.Path.{_∙_, subst}
 use native.Mathlib.Nat.{zero-add}
 use native.Mathlib.Omega.{arith}
 use borrow.Author.Needs.{needs}
+use Rattle.surface.proofs.Cells.{last-x-near}
 use Rattle.listing.specs.Listing.{lastX}
 use Rattle.listing.proofs.Begun.{Begun, on-row, starts, length-kept, line-room, goes-on, done}
-use Rattle.listing.proofs.OuterLines.{last-x-near}
 use Rattle.listing.proofs.row_text.Statement.{statement}
 use Rattle.listing.proofs.row_text.Tie as tie
 

@@ -37,6 +37,7 @@ done-in-spec =
     returns
     (λ c. search needs)
     (λ c κs. search needs)
+    (λ c. search needs)
     sub-least
     (λ c κs. search needs)
     returns-2)

@@ -76,8 +76,8 @@ corner-numbers-requires : tie.Need-corner-numbers-requires
 corner-numbers-requires c κs = let l = c .before in let s = l .before .before .before in
     (on s .accepted, has s, rw (width l) (fit s .inside .width), fit s .inside .height)
 
-sub-t14 : tie.Need-sub-t14
-sub-t14 c = let l = c .before .before .before in rw (l .line-x .ensures) (starts (l .before .before))
+sub-t15 : tie.Need-sub-t15
+sub-t15 c = let l = c .before .before .before in rw (l .line-x .ensures) (starts (l .before .before))
 
 sub-fill-cell : tie.Need-sub-fill-cell
 sub-fill-cell c = let d = c .before .before in rw (d .done-in .ensures) (le-of-lt (ended (d .before .before .before .before) .further))
@@ -122,13 +122,15 @@ fill-column-spec =
     tie.close
     (tie.spec
     line-x-requires
+    (λ c. search needs)
     (λ c. let s = c .before .before in let h = has s .column in let many = sound _ (on s .accepted) .manyColumns in search needs)
     line-x-requires-2
+    (λ c. search needs)
     sub-width
     done-in-requires
     corner-numbers-requires
     (λ c. let s = c .before .before .before .before .before in let near = run-near _ _ _ _ (on s) _ (s .pre .1) _ (s .pre .2) in search needs)
-    sub-t14
+    sub-t15
     sub-fill-cell
     fill-cell-requires
     (λ c. search needs)
