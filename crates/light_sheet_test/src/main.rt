@@ -7,6 +7,11 @@ use answers::Answer;
 use answers::BendReading;
 use answers::LevelReading;
 use answers::TiltReading;
+use cases::answer;
+use cases::call;
+use cases::long;
+use cases::part;
+use cases::short;
 use libc::STDIN_FILENO;
 use libc::STDOUT_FILENO;
 use printing::field;
@@ -47,46 +52,18 @@ fn case() -> bool {
     if io::read_full(STDIN_FILENO, &mut head) < 6 {
         return false;
     }
-    let name_size = short(head[0], head[1]) as usize;
-    let sheet_size = short(head[2], head[3]) as usize;
-    let calls = short(head[4], head[5]);
     let mut name = [0u8; 64];
     let mut sheet = [0u8; 26000];
     let mut copy = [0u8; 26000];
-    sized_case(
-        &mut name,
-        &mut sheet,
+    let name_size = part(short(head[0], head[1]), &mut name);
+    let sheet_size = part(short(head[2], head[3]), &mut sheet);
+    make_calls(
+        &name[..name_size],
+        &sheet[..sheet_size],
         &mut copy,
-        name_size,
-        sheet_size,
-        calls,
+        short(head[4], head[5]),
     );
     true
-}
-
-// A case in as much of the buffers as it fills. One that they do not hold is left out, and its lines are then missing.
-fn sized_case(
-    name: &mut [u8],
-    sheet: &mut [u8],
-    copy: &mut [u8],
-    name_size: usize,
-    sheet_size: usize,
-    calls: u32,
-) {
-    if name_size <= name.len() && sheet_size <= sheet.len() && sheet_size <= copy.len() {
-        read_case(
-            &mut name[0..name_size],
-            &mut sheet[0..sheet_size],
-            &mut copy[0..sheet_size],
-            calls,
-        );
-    }
-}
-
-fn read_case(name: &mut [u8], sheet: &mut [u8], copy: &mut [u8], calls: u32) {
-    io::read_full(STDIN_FILENO, name);
-    io::read_full(STDIN_FILENO, sheet);
-    make_calls(name, sheet, copy, calls);
 }
 
 fn make_calls(name: &[u8], sheet: &[u8], copy: &mut [u8], calls: u32) {
@@ -147,8 +124,15 @@ fn set_node(name: &[u8], sheet: &[u8], copy: &mut [u8], v: Numbers) {
     signed_field(v.height);
     signed_field(v.x_slope);
     signed_field(v.y_slope);
-    refresh(sheet, copy);
-    answer(light_sheet::set_node(copy, v.column, v.row, v.height, v.x_slope, v.y_slope));
+    let size = cases::copy(sheet, copy);
+    answer(light_sheet::set_node(
+        &mut copy[..size],
+        v.column,
+        v.row,
+        v.height,
+        v.x_slope,
+        v.y_slope,
+    ));
     changes(sheet, copy);
     io::write_all(STDOUT_FILENO, b"\n");
 }
@@ -228,19 +212,8 @@ fn whole(v: f64) -> i64 {
     0
 }
 
-fn call(verb: &[u8], name: &[u8]) {
-    io::write_all(STDOUT_FILENO, verb);
-    io::write_all(STDOUT_FILENO, name);
-    io::write_all(STDOUT_FILENO, b" ");
-}
-
 fn signed_field(n: i32) {
     field(n as i64);
-}
-
-fn answer(number: u32) {
-    io::write_all(STDOUT_FILENO, b"->");
-    number_after_blank(number as u64);
 }
 
 // A part's length and bytes.
@@ -250,14 +223,6 @@ fn handed_back(part: &[u8]) {
     let mut k: usize = 0;
     while k < part.len() {
         number_after_blank(wide(part[k]) as u64);
-        k += 1;
-    }
-}
-
-fn refresh(sheet: &[u8], copy: &mut [u8]) {
-    let mut k: usize = 0;
-    while k < sheet.len() && k < copy.len() {
-        copy[k] = sheet[k];
         k += 1;
     }
 }
@@ -282,14 +247,6 @@ fn change(index: usize, value: u8) {
 fn number_after_blank(number: u64) {
     io::write_all(STDOUT_FILENO, b" ");
     io::print_decimal(STDOUT_FILENO, number);
-}
-
-fn short(low: u8, high: u8) -> u32 {
-    wide(low) + wide(high) * 256
-}
-
-fn long(a: u8, b: u8, c: u8, d: u8) -> u32 {
-    wide(a) + wide(b) * 256 + wide(c) * 65536 + wide(d) * 16777216
 }
 
 // The signed number with these bits; !x is −1 − x.

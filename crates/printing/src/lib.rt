@@ -7,6 +7,12 @@ pub fn field(n: i64) {
     io::write_all(STDOUT_FILENO, b" ");
 }
 
+// A blank and a number.
+pub fn next(n: i64) {
+    io::write_all(STDOUT_FILENO, b" ");
+    show(n);
+}
+
 // A number that ends its line.
 pub fn last(n: i64) {
     show(n);
