@@ -17,4 +17,4 @@ use Rattle.listing.specs.Examples.{Examples}
 
 pub examples : Examples
 unfolding floorDiv round value byR byS jet element.cornerNumbers element.inOrder element.weights element.weighed element.halved element.transposed element.flipped element.mirrored element.swap element.negateX element.negateY element.exchanged element.topDown element.leftRight element.onTop element.onLeft element.sibson element.element reading.rounded reading.level reading.tiltX reading.tiltY side cell signed marked supported countIn decoded heightIn slopeIn nodeIn nodeAt heightAt slopeXAt slopeYAt refusals.some refusals.otherMark refusals.otherVersion refusals.otherCounts refusals.otherLength refusals.wrongStep refusals.wrongLine refusals.wrongLines refusals.wrongNodes refusals.table refusals.first refusals.member refusals.part refusals.checkRefusal cellOf cellAlong columnAt rowAt place nodeNumbers nodesOf setOf levelAt tiltXAt tiltYAt level tiltX tiltY spelled natural decimal field line refusedLine sequence pixelLine rowText printed
-examples = record { sheet = refl; version = refl; nothing = refl }
+examples = record { three = refl; sheet = refl; version = refl; nothing = refl }

@@ -1,7 +1,7 @@
 -- `filling::off_mesh` meets its contract. Assumes nothing.
 use denote.Ref.{now}
 use Prim.Native.Nat.{_+_, _-_}
-use mathlib.Core.Path.{_≡_, sym, _∙_}
+use mathlib.Core.Path.{_≡_, refl, sym, _∙_}
 use mathlib.Core.Bool.{false}
 use native.Mathlib.Omega.{arith}
 use borrow.Author.Needs.{needs}
@@ -26,7 +26,8 @@ returns-3 c = let e = c .before in let o = e .before in let s = o .before .befor
     ∙ last-off _ _ _ _ (on-mesh o) (e .if2 .left)
 
 returns-4 : tie.Need-returns-4
-returns-4 c = let e = c .before .before in c .outside2 .ensures ∙ last-off _ _ _ _ (on-mesh (e .before)) (e .if2 .left)
+returns-4 c = let e = c .before .before in let o = e .before in let a = o .before .before .before .args in
+    rw (c .outside2 .ensures, ← last-off (now (a .sheet)) (a .x) (a .y) (a .count) (on-mesh o) (e .if2 .left)) refl
 
 pub off-mesh-spec : {M : Type 1} → statement M
 off-mesh-spec =
