@@ -1,12 +1,10 @@
 -- Demand 1, from the laws of setting, of runs and of refusals. Assumes nothing.
 use Prim.Native.Nat.{ℕ}
-use mathlib.Core.Path.{_≡_, _∙_, ap}
-use mathlib.Core.Logic.{_↔_}
-use mathlib.Core.List.{List}
+use mathlib.Core.Path.{_≡_, refl, sym, _∙_, ap, subst}
+use mathlib.Core.List.{List, []}
 use native.Mathlib.Decide.{ℕ-discrete}
-use native.Mathlib.Omega.{arith}
 use Rattle.sheet.specs.Refusals.{Input, table, first, part, checkRefusal, lookupRefusal, settingRefusal, readingRefusal, runRefusal}
-use Rattle.sheet.specs.Calls.{span, lookedUp}
+use Rattle.sheet.specs.Calls.{Part}
 use Rattle.sheet.proofs.Conditions.{condition-laws}
 use Rattle.sheet.proofs.FirstHolds.{refusal-laws}
 use Rattle.sheet.proofs.Lookup.{lookup-laws}
@@ -32,15 +30,13 @@ reading-number s x y kind = elim (ℕ-discrete (readingRefusal s x y kind) 0) [
   | no h ↦ rw (refused-is s x y kind h)
 ]
 
--- six bytes are not none
-empty-part : (s : List ℕ) (i j : ℕ) → (lookedUp s i j ≡ span 0 0) ↔ (¬ (lookupRefusal s i j ≡ 0))
-empty-part s i j = (
-  λ e h. let sizes = ap (λ p. p .size) (lookup-laws .found s i j h) in let none = ap (λ p. p .size) e in omega (arith, sizes, none),
-  lookup-laws .refused s i j,
-)
+-- and where it is one, there are no values
+no-values : (s : List ℕ) (x y kind : ℕ) → ¬ (readingRefusal s x y kind ≡ 0) → read s x y kind .values ≡ []
+unfolding refused
+no-values s x y kind h = rw (refused-is s x y kind h) refl
 
 pub demand-one : DemandOne
-unfolding checkRefusal lookupRefusal settingRefusal readingRefusal runRefusal
+unfolding table checkRefusal lookupRefusal settingRefusal readingRefusal runRefusal
 demand-one = record {
   sheetSize = λ c. rw (c .sheet) (setting-laws .leaves _ _ _ _ .size);
   beforeNode = λ c. rw (c .sheet) (setting-laws .leaves _ _ _ _ .before);
@@ -48,12 +44,15 @@ demand-one = record {
   sheetRefused = λ c h. c .sheet ∙ setting-laws .refused _ _ _ _ (λ e. h (c .answer ∙ e));
   rowSize = λ c. rw (c .levels) (run-laws .size _ _ _ _);
   rowRefused = λ c h. c .levels ∙ run-laws .refused _ _ _ _ (λ e. h (c .answer ∙ e));
-  check = λ s n e. gives _ _ e;
-  lookup = λ s i j n e. gives _ _ e;
+  check = λ c. gives _ _ (c .answer);
+  lookup = λ c. gives _ _ (c .answer);
   setting = λ c. gives _ _ (c .answer);
   reading = λ c. gives _ _ (ap (λ o. o .number) (c .answer) ∙ reading-number _ _ _ _);
   run = λ c. gives _ _ (c .answer);
-  emptyPart = empty-part;
+  emptyPart = λ c d h. subst (Part _ _) (lookup-laws .refused _ _ _ (λ e. h (d .answer ∙ e))) (c .part);
+  nodePart = λ c d e. subst (Part _ _) (lookup-laws .found _ _ _ (sym (d .answer) ∙ e)) (c .part);
+  noValues = λ c h. ap (λ o. o .values) (c .answer) ∙ no-values _ _ _ _ (λ e. h (ap (λ o. o .number) (c .answer) ∙ reading-number _ _ _ _ ∙ e));
   order = refusal-laws .order;
+  listed = λ u. refl;
   conditions = condition-laws;
 }

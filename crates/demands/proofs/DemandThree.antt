@@ -6,6 +6,7 @@ use Rattle.sibson.proofs.Unique.{uniqueness}
 use Rattle.surface.specs.Surface.{jetAt}
 use Rattle.surface.specs.Read.{exact}
 use Rattle.surface.proofs.Sets.{the-set, shared-edges}
+use Rattle.surface.proofs.Places.{place-laws}
 use Rattle.surface.proofs.Runs.{run-laws}
 use Rattle.surface.proofs.HalfUnits.{half-units}
 use Rattle.demands.specs.Demands.{DemandThree}
@@ -15,6 +16,8 @@ unfolding jetAt exact
 demand-three = record {
   unique = uniqueness .exactly;
   linear = linearity;
+  widths = the-set .widths;
+  heights = the-set .heights;
   meets = λ s a i j h. the-set .fits s a i j h .meets;
   nodes = λ s a i j h. the-set .fits s a i j h .nodes;
   only = λ s a i j h S m n. the-set .only s a i j h S (record { meets = m; nodes = n });
@@ -23,6 +26,7 @@ demand-three = record {
   levels = λ a i c. half-units .returned _ _ _ 0 a i (lit≤ tt) _ (c .answer);
   tilts = λ a i c. half-units .returned _ _ _ 1 a i (lit≤ tt) _ (c .answer);
   bends = λ a i c. half-units .returned _ _ _ 2 a i (lit≤ tt) _ (c .answer);
+  places = place-laws;
   runs = λ c k l. rw (c .levels) (half-units .runs _ _ _ _ (sym (c .answer)) k l);
   reached = λ k a i j e c. c .answer ∙ rw e (run-laws .taken _ _ _ k a i j);
 }

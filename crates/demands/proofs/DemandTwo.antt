@@ -45,6 +45,7 @@ demand-two = record {
   nearest = half-unit .distances;
   tie = tie;
   readsBack = λ c. rw (c .sheet) (setting-laws .readsBack _ _ _ _ (sym (c .answer)));
+  nodeBack = λ c e d. rw (d .part .bytes, e, c .sheet) (setting-laws .readsBack _ _ _ _ (sym (c .answer)) .decodes);
   levelBack = λ c d. answer-laws .told _ _ (d .answer ∙ rw (c .sheet) (at-nodes .setLevels _ _ _ _ (sym (c .answer))));
   tiltBack = λ c d. answer-laws .told _ _ (d .answer ∙ rw (c .sheet) (at-nodes .setTilts _ _ _ _ (sym (c .answer))));
 }

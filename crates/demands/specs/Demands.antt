@@ -3,9 +3,10 @@ use Prim.Native.Nat.{ℕ, suc, _+_, _≤_, _<_}
 use mathlib.Core.Path.{_≡_}
 use mathlib.Core.Logic.{_↔_}
 use mathlib.Core.List.{List, [], _∷_, map}
+use denote.Ref.{RefT, now}
 use lib.IntN.{ℤ, pos, _+ℤ_, _*ℤ_}
 use lib.ListN.{length, getD}
-use Rattle.sibson.specs.Fraction.{Positive, positive, ℚ, _≈_, _+ℚ_, _-ℚ_, _·ℚ_, whole, half}
+use Rattle.sibson.specs.Fraction.{positive, ℚ, _≈_, _+ℚ_, _-ℚ_, _·ℚ_, whole, half}
 use Rattle.sibson.specs.Cubic.{Cell, Point, Jet, Bend, value, jet, bend, _≋_}
 use Rattle.sibson.specs.Piece.{Piece, top, right, bottom, left, FourCubics, edge}
 use Rattle.sibson.specs.Conditions.{Meets, SameCorners, Equal}
@@ -15,11 +16,11 @@ use Rattle.sibson.specs.Theorems.{Has, wholes}
 use Rattle.nistir_6718.specs.Source as nistir
 use Rattle.readings.specs.Reading.{rounded, _withinℚ_}
 use Rattle.words.specs.Word.{byteAt}
-use Rattle.sheet.specs.Format.{lineX, lineY, Node, nodeSize, nodeOffset, grainsPerStep}
-use Rattle.sheet.specs.Refusals.{Input, table, part, zeroNode, atPixel, atNode, ofSheet, checkRefusal, lookupRefusal, settingRefusal, runRefusal, Accepted}
+use Rattle.sheet.specs.Format.{lineX, lineY, Node, decoded, nodeSize, nodeOffset, grainsPerStep}
+use Rattle.sheet.specs.Refusals.{otherMark, otherVersion, otherCounts, otherLength, wrongLines, wrongNodes, offMesh, emptyRun, otherKind, noNode, wrongNumbers, Input, table, part, zeroNode, atPixel, atNode, ofSheet, checkRefusal, lookupRefusal, settingRefusal, runRefusal, Accepted}
 use Rattle.sheet.specs.RefusalLaws.{Fails, Each, FirstToHold}
 use Rattle.sheet.specs.WellFormed.{Inside, ConditionLaws}
-use Rattle.sheet.specs.Calls.{span, lookedUp, withNode}
+use Rattle.sheet.specs.Calls.{Part, span, lookedUp, withNode}
 use Rattle.sheet.specs.NodeLaws.{ReadsBack}
 use Rattle.answers.specs.Answers.{outcome, quotient}
 use Rattle.answers.specs.declared.Answer.{Answer}
@@ -29,9 +30,21 @@ use Rattle.surface.specs.Surface.{nodesOf, setOf}
 use Rattle.surface.specs.Read.{read}
 use Rattle.surface.specs.Run.{filled}
 use Rattle.surface.specs.Touching.{PlaceLaws}
-use Rattle.surface.specs.Theorems.{HalfUnitFrom, EachPair}
+use Rattle.surface.specs.Theorems.{HalfUnitsFrom}
 
 -- ---- the contracts of the calls: what each gives and leaves follows from its input
+
+-- `check` gives n
+pub record Check (s : List ℕ) (n : ℕ) : Type 0 where
+  pub answer : n ≡ checkRefusal s
+
+-- `node_refusal` gives n
+pub record NodeRefusal (s : List ℕ) (i j n : ℕ) : Type 0 where
+  pub answer : n ≡ lookupRefusal s i j
+
+-- `node` on the slice s hands back r
+pub record NodeCall (s : RefT (List ℕ)) (i j : ℕ) (r : RefT (List ℕ)) : Type 0 where
+  pub part : Part s r (lookedUp (now s) i j)
 
 -- `set_node` on the sheet s gives n and leaves t
 pub record SetNode (s : List ℕ) (i j : ℕ) (v : Node) (n : ℕ) (t : List ℕ) : Type 0 where
@@ -69,17 +82,23 @@ pub record DemandOne : Type 0 where
   -- every function the gate shows that it reads and writes within bounds, that no operation loses a bit, and that it ends
 
   -- "Each refusal is given when its listed condition is the first in order to hold, and then only."
-  pub check : (s : List ℕ) (n : ℕ) → n ≡ checkRefusal s → Gives (1 ∷ 2 ∷ 3 ∷ 4 ∷ 5 ∷ 6 ∷ []) (ofSheet s) n
-  pub lookup : (s : List ℕ) (i j n : ℕ) → n ≡ lookupRefusal s i j → Gives (1 ∷ 2 ∷ 3 ∷ 4 ∷ 5 ∷ 6 ∷ 10 ∷ []) (atNode s i j zeroNode) n
+  pub check : {s : List ℕ} {n : ℕ} → Check s n → Gives (1 ∷ 2 ∷ 3 ∷ 4 ∷ 5 ∷ 6 ∷ []) (ofSheet s) n
+  pub lookup : {s : List ℕ} {i j n : ℕ} → NodeRefusal s i j n → Gives (1 ∷ 2 ∷ 3 ∷ 4 ∷ 5 ∷ 6 ∷ 10 ∷ []) (atNode s i j zeroNode) n
   pub setting : {s t : List ℕ} {i j n : ℕ} {v : Node} → SetNode s i j v n t → Gives (1 ∷ 2 ∷ 3 ∷ 4 ∷ 5 ∷ 6 ∷ 10 ∷ 11 ∷ []) (atNode s i j v) n
   pub reading : {s : List ℕ} {x y kind : ℕ} {r : Answer} → Read s x y kind r →
       Gives (1 ∷ 2 ∷ 3 ∷ 4 ∷ 5 ∷ 6 ∷ 7 ∷ 9 ∷ []) (atPixel s x y 0 kind) (outcome r .number)
   pub run : {s : List ℕ} {x y n : ℕ} {row row′ : List ℤ} → FillRun s x y row n row′ →
       Gives (1 ∷ 2 ∷ 3 ∷ 4 ∷ 5 ∷ 6 ∷ 7 ∷ 8 ∷ []) (atPixel s x y (length row) 0) n
   -- a lookup hands back an empty part from the start exactly where its companion gives a refusal
-  pub emptyPart : (s : List ℕ) (i j : ℕ) → (lookedUp s i j ≡ span 0 0) ↔ (¬ (lookupRefusal s i j ≡ 0))
-  -- the order of the table, and what its conditions say
+  pub emptyPart : {s r : RefT (List ℕ)} {i j n : ℕ} → NodeCall s i j r → NodeRefusal (now s) i j n → ¬ (n ≡ 0) → Part s r (span 0 0)
+  pub nodePart : {s r : RefT (List ℕ)} {i j n : ℕ} → NodeCall s i j r → NodeRefusal (now s) i j n → n ≡ 0 → Part s r (span (nodeOffset (now s) i j) nodeSize)
+  -- a reading that is refused gives its number and nothing else
+  pub noValues : {s : List ℕ} {x y kind : ℕ} {r : Answer} → Read s x y kind r → ¬ (outcome r .number ≡ 0) → outcome r .values ≡ []
+  -- the table: its numbers in order, the condition of each, and what the conditions say
   pub order : map (λ r. r .number) table ≡ 1 ∷ 2 ∷ 3 ∷ 4 ∷ 5 ∷ 6 ∷ 7 ∷ 8 ∷ 9 ∷ 10 ∷ 11 ∷ []
+  pub listed : (u : Input) → map (λ r. r .condition u) table ≡
+      otherMark (u .sheet) ∷ otherVersion (u .sheet) ∷ otherCounts (u .sheet) ∷ otherLength (u .sheet) ∷ wrongLines (u .sheet) ∷ wrongNodes (u .sheet) ∷
+      offMesh (u .sheet) (u .x) (u .y) (u .count) ∷ emptyRun (u .count) ∷ otherKind (u .kind) ∷ noNode (u .sheet) (u .column) (u .row) ∷ wrongNumbers (u .numbers) ∷ []
   pub conditions : ConditionLaws
 
 -- ---- the surface that demands 2 and 3 speak of: `setOf s i j` is the set we read from in the cell in column i and row j
@@ -123,16 +142,13 @@ pub record DemandTwo : Type 0 where
   pub tie : (x : ℚ) (z : ℤ) → x ≈ whole z +ℚ half → rounded x ≡ z +ℤ pos 1
   -- "A node set to new numbers reads back as those numbers." Looked up, and read at its pixel: the height, in grains, and the slopes
   pub readsBack : {s t : List ℕ} {i j : ℕ} {v : Node} → SetNode s i j v 0 t → ReadsBack i j v t
+  pub nodeBack : {s t : List ℕ} {i j : ℕ} {v : Node} {u r : RefT (List ℕ)} → SetNode s i j v 0 t → now u ≡ t → NodeCall u i j r → decoded (now r) ≡ v
   pub levelBack : {s t : List ℕ} {i j : ℕ} {v : Node} {r : Answer} → SetNode s i j v 0 t → Read t (lineX s i) (lineY s j) 0 r →
       r ≡ answer.Level (quotient (positive 64 tt) (grainsPerStep *ℤ v .storedHeight))
   pub tiltBack : {s t : List ℕ} {i j : ℕ} {v : Node} {r : Answer} → SetNode s i j v 0 t → Read t (lineX s i) (lineY s j) 1 r →
       r ≡ answer.Tilt (quotient (positive 64 tt) (v .slopeX)) (quotient (positive 64 tt) (v .slopeY))
 
 -- ---- demand 3
-
--- the answer is no refusal, and each of its values is exactly a whole number over d that lies within half a unit of the exact value
-abbrev pub HalfUnitsFrom : Positive → Answer → List ℚ → Type 0
-HalfUnitsFrom d r xs = (outcome r .number ≡ 0) × EachPair (HalfUnitFrom d) (outcome r .values) xs
 
 pub record DemandThree : Type 0 where
   -- "Take any cell, whatever its width and height, and any two sets of four cubics over it, whatever their coefficients, each set meeting along the diagonals
@@ -142,6 +158,8 @@ pub record DemandThree : Type 0 where
   -- linear: no square term is a straight line at all points of the edge
   pub linear : Linearity
   -- "On every accepted sheet the set we read from in each cell is the one such set that has the nodes' numbers at the corners;"
+  pub widths : (s : List ℕ) → Accepted s → (i j : ℕ) → HasCell s i j → lineX s i + cellOf s i j .W .number ≡ lineX s (suc i)
+  pub heights : (s : List ℕ) → Accepted s → (i j : ℕ) → HasCell s i j → lineY s j + cellOf s i j .H .number ≡ lineY s (suc j)
   pub meets : (s : List ℕ) → Accepted s → (i j : ℕ) → HasCell s i j → Meets (cellOf s i j) (setOf s i j)
   pub nodes : (s : List ℕ) → Accepted s → (i j : ℕ) → HasCell s i j → Has (cellOf s i j) (setOf s i j) (λ c. wholes (nodesOf s i j c))
   pub only : (s : List ℕ) → Accepted s → (i j : ℕ) → HasCell s i j → (S : FourCubics) → Meets (cellOf s i j) S →
@@ -159,6 +177,8 @@ pub record DemandThree : Type 0 where
       HalfUnitsFrom (positive 64 tt) r (pixelJet s x y .xSlope ∷ pixelJet s x y .ySlope ∷ [])
   pub bends : {s : List ℕ} {x y : ℕ} {r : Answer} → Accepted s → Inside s x y → Read s x y 2 r →
       HalfUnitsFrom (positive 4096 tt) r (pos 64 ·ℚ pixelBend s x y .xx ∷ pos 64 ·ℚ pixelBend s x y .xy ∷ pos 64 ·ℚ pixelBend s x y .yy ∷ [])
+  -- the pixel's cell and piece
+  pub places : PlaceLaws
   pub runs : {s : List ℕ} {x y : ℕ} {row row′ : List ℤ} → FillRun s x y row 0 row′ → (k : ℕ) → k < length row →
       whole (getD row′ k (pos 0)) -ℚ pixelJet s (x + k) y .height withinℚ half
   pub reached : {s : List ℕ} {x y n : ℕ} {row row′ : List ℤ} (k : ℕ) → Accepted s → Inside s x y → Inside s (x + k) y → length row ≡ suc k →

@@ -1,8 +1,25 @@
-// The public calls that give a reading or write lent memory, with what the demands say of them for contracts: whatever a call gives and leaves is what the
-// demands speak of.
+// The public calls, each with the record that the demands speak of for its contract: whatever a call gives and leaves is what they are about.
 ghost use Rattle.sheet.specs.Format.{node};
-ghost use Rattle.demands.specs.Demands.{SetNode, Read, FillRun};
+ghost use Rattle.demands.specs.Demands.{Check, NodeRefusal, NodeCall, SetNode, Read, FillRun};
 use answers::Answer;
+
+pub fn check(sheet: &[u8]) -> u32
+    ensures { λ r. ⌜ Check (now (sheet .entry)) r ⌝ }
+{
+    light_sheet::check(sheet)
+}
+
+pub fn node(sheet: &[u8], column: u32, row: u32) -> &[u8]
+    ensures { λ r. ⌜ NodeCall (sheet .entry) column row r ⌝ }
+{
+    light_sheet::node(sheet, column, row)
+}
+
+pub fn node_refusal(sheet: &[u8], column: u32, row: u32) -> u32
+    ensures { λ r. ⌜ NodeRefusal (now (sheet .entry)) column row r ⌝ }
+{
+    light_sheet::node_refusal(sheet, column, row)
+}
 
 pub fn set_node(
     sheet: &mut [u8],

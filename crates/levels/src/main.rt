@@ -3,7 +3,7 @@
 ghost use Prim.Native.Nat.{_≤_};
 ghost use lib.ListN.{length};
 ghost use Rattle.sheet.specs.Refusals.{Accepted};
-ghost use Rattle.listing.specs.Listing.{firstY, lastY, rowRoom};
+ghost use Rattle.listing.specs.Listing.{OnRow, rowRoom};
 use libc::STDIN_FILENO;
 use libc::STDOUT_FILENO;
 use listing::ROW_ROOM;
@@ -26,6 +26,7 @@ fn print(sheet: &[u8]) {
 }
 
 fn print_refusal(number: u32) {
+    // Enough for the word, a blank, up to ten digits and the end of the line.
     let mut out = [0u8; 20];
     let end = text::refused(&mut out, number);
     io::write_all(STDOUT_FILENO, &out[..end]);
@@ -36,7 +37,7 @@ fn print_rows(sheet: &[u8], out: &mut [u8])
     requires { ⌜ Accepted (now sheet) × (rowRoom ≤ length (now out)) ⌝ }
 {
     let last = listing::last_row(sheet);
-    let mut y = listing::first_row(sheet);
+    let mut y = checking::line_y(sheet, 0);
     while y <= last {
         if !print_row(sheet, y, out) {
             return;
@@ -47,7 +48,7 @@ fn print_rows(sheet: &[u8], out: &mut [u8])
 
 // Row y, by way of `out`; answers whether all of it was written.
 fn print_row(sheet: &[u8], y: u32, out: &mut [u8]) -> bool
-    requires { ⌜ Accepted (now sheet) × (firstY (now sheet) ≤ y) × (y ≤ lastY (now sheet)) × (rowRoom ≤ length (now out)) ⌝ }
+    requires { ⌜ OnRow (now sheet) y × (rowRoom ≤ length (now out)) ⌝ }
 {
     let end = listing::row_text(sheet, y, out);
     io::write_all(STDOUT_FILENO, &out[..end])

@@ -6,12 +6,11 @@ use native.Mathlib.Nat.{mul-suc}
 use native.Mathlib.Omega.{arith}
 use lib.ListN.{length, length-append}
 use Rattle.words.proofs.Replaced.{replaced-length}
-use Rattle.sheet.specs.Refusals.{Accepted}
 use Rattle.sheet.specs.WellFormed.{Inside}
 use Rattle.surface.proofs.Cells.{sound, last-x-near}
 use Rattle.surface.proofs.Places.{node-inside}
 use Rattle.text.proofs.Written.{Written, both-written}
-use Rattle.listing.specs.Listing.{sequence, firstX, lastX, firstY, lastY, pixelLine, rowText, lineRoom, rowRoom}
+use Rattle.listing.specs.Listing.{sequence, firstX, lastX, OnRow, pixelLine, rowText, lineRoom, rowRoom}
 use Rattle.listing.proofs.Lengths.{line-fits}
 
 -- texts one after the other, of m bytes at most
@@ -38,21 +37,21 @@ pub record Begun (s : List ℕ) (y : ℕ) (buffer : List ℕ) (x : ℕ) (out : L
   pub to : x ≤ lastX s + 1
   pub written : Written buffer 0 (until s y x) out end
 
-module _ (s : List ℕ) (y : ℕ) (accepted : Accepted s) (top : firstY s ≤ y) (bottom : y ≤ lastY s) where
+module _ (s : List ℕ) (y : ℕ) (row : OnRow s y) where
   pub on-row : (x : ℕ) → firstX s ≤ x → x ≤ lastX s → Inside s x y
-  on-row x h l = record { left = h; right = l; top = top; bottom = bottom }
+  on-row x h l = record { left = h; right = l; top = row .top; bottom = row .bottom }
 
   x-in-order : firstX s ≤ lastX s
-  x-in-order = let w = sound s accepted in node-inside s accepted 0 0 (omega (arith, w .fewColumns)) (omega (arith, w .fewRows)) .right
+  x-in-order = let a = row .accepted in let w = sound s a in node-inside s a 0 0 (omega (arith, w .fewColumns)) (omega (arith, w .fewRows)) .right
 
   until-fits : (x : ℕ) → x ≤ lastX s + 1 → length (until s y x) ≤ lineRoom * (x - firstX s)
   until-fits x h =
       sequence-length (λ k. pixelLine s (firstX s + k) y) lineRoom (x - firstX s)
-      (λ k l. line-fits s (firstX s + k) y accepted (on-row (firstX s + k) (omega arith) (omega arith)))
+      (λ k l. line-fits s (firstX s + k) y (row .accepted) (on-row (firstX s + k) (omega arith) (omega arith)))
 
   pub row-fits : length (rowText s y) ≤ rowRoom
   unfolding rowText
-  row-fits = omega (arith, until-fits (lastX s + 1) (omega arith), last-x-near s accepted)
+  row-fits = omega (arith, until-fits (lastX s + 1) (omega arith), last-x-near s (row .accepted))
 
   module _ (buffer : List ℕ) (room : rowRoom ≤ length buffer) where
     pub starts : Begun s y buffer (firstX s) buffer 0
@@ -63,16 +62,16 @@ module _ (s : List ℕ) (y : ℕ) (accepted : Accepted s) (top : firstY s ≤ y)
 
     module _ {x : ℕ} {out : List ℕ} {end : ℕ} (begun : Begun s y buffer x out end) where
       pub length-kept : length out ≡ length buffer
-      length-kept = ap length (begun .written .1) ∙ replaced-length buffer 0 (until s y x) (omega (arith, until-fits x (begun .to), last-x-near s accepted))
+      length-kept = ap length (begun .written .1) ∙ replaced-length buffer 0 (until s y x) (omega (arith, until-fits x (begun .to), last-x-near s (row .accepted)))
 
       -- there is room for the line of pixel x
       pub line-room : x ≤ lastX s → end + lineRoom ≤ length out
-      line-room h = omega (arith, begun .written .0, length-kept, until-fits x (begun .to), last-x-near s accepted)
+      line-room h = omega (arith, begun .written .0, length-kept, until-fits x (begun .to), last-x-near s (row .accepted))
 
       pub goes-on : x ≤ lastX s → {next : List ℕ} {after : ℕ} → Written out end (pixelLine s x y) next after → Begun s y buffer (x + 1) next after
       goes-on h {next} {after} w =
           let more = until-more s y x (begun .from) in
-          let fits = subst (λ b. 0 + length b ≤ length buffer) more (omega (arith, until-fits (x + 1) (omega arith), last-x-near s accepted)) in
+          let fits = subst (λ b. 0 + length b ≤ length buffer) more (omega (arith, until-fits (x + 1) (omega arith), last-x-near s (row .accepted))) in
           record {
             from = omega (arith, begun .from);
             to = omega arith;

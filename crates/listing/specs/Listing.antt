@@ -1,10 +1,10 @@
 -- What 01's program prints for the bytes that it has read, and the part of it that is made at a time: the text of a row of pixels. Assumes nothing.
-use Prim.Native.Nat.{ℕ, zero, suc, _+_, _-_, _*_}
+use Prim.Native.Nat.{ℕ, zero, suc, _+_, _-_, _*_, _≤_}
 use mathlib.Core.List.{List, [], _++_}
 use mathlib.Core.Bool.{cond}
 use lib.Dec.{eqb}
 use Rattle.sheet.specs.Format.{columns, rows, lineX, lineY}
-use Rattle.sheet.specs.Refusals.{checkRefusal}
+use Rattle.sheet.specs.Refusals.{checkRefusal, Accepted}
 use Rattle.surface.specs.Surface.{level, tiltX, tiltY}
 use Rattle.text.specs.Text.{line, refusedLine}
 
@@ -29,6 +29,12 @@ firstY s = lineY s 0
 
 abbrev pub lastY : List ℕ → ℕ
 lastY s = lineY s (rows s - 1)
+
+-- y is a row of the accepted sheet s
+pub record OnRow (s : List ℕ) (y : ℕ) : Type 0 where
+  pub accepted : Accepted s
+  pub top : firstY s ≤ y
+  pub bottom : y ≤ lastY s
 
 -- a pixel's line
 unfoldable pub pixelLine : List ℕ → ℕ → ℕ → List ℕ

@@ -1,4 +1,4 @@
-// The text of a row of pixels of an accepted sheet, and which rows the sheet has.
+// The text of a row of pixels of an accepted sheet, and the last row that the sheet has.
 pub mod theorems;
 
 ghost use mathlib.Core.Path.{_≡_};
@@ -7,7 +7,7 @@ ghost use lib.ListN.{length};
 ghost use Rattle.words.specs.Word.{replaced};
 ghost use Rattle.sheet.specs.Refusals.{Accepted};
 ghost use Rattle.sheet.specs.WellFormed.{Inside};
-ghost use Rattle.listing.specs.Listing.{firstX, lastX, firstY, lastY, pixelLine, rowText, lineRoom, rowRoom};
+ghost use Rattle.listing.specs.Listing.{lastX, lastY, OnRow, pixelLine, rowText, lineRoom, rowRoom};
 use checking::columns;
 use checking::line_x;
 use checking::line_y;
@@ -18,12 +18,12 @@ pub const ROW_ROOM: usize = 262208;
 
 // Writes the text of row y to the start of `out`, and answers how many bytes it has.
 pub fn row_text(sheet: &[u8], y: u32, out: &mut [u8]) -> usize
-    requires { ⌜ Accepted (now sheet) × (firstY (now sheet) ≤ y) × (y ≤ lastY (now sheet)) × (rowRoom ≤ length (now out)) ⌝ }
+    requires { ⌜ OnRow (now sheet) y × (rowRoom ≤ length (now out)) ⌝ }
     ensures count { λ r. ⌜ r ≡ length (rowText (now (sheet .entry)) y) ⌝ }
     ensures text { λ r. ⌜ now (out .exit) ≡ replaced (now (out .entry)) 0 (rowText (now (sheet .entry)) y) ⌝ }
 {
     let last = last_column(sheet);
-    let mut x = first_column(sheet);
+    let mut x = line_x(sheet, 0);
     let mut end: usize = 0;
     while x <= last {
         end = pixel_line(sheet, x, y, out, end);
@@ -42,26 +42,12 @@ fn pixel_line(sheet: &[u8], x: u32, y: u32, out: &mut [u8], at: usize) -> usize
     text::line(out, at, x, y, reading[0], reading[1], reading[2])
 }
 
-// The outer lines of the mesh: the first and the last pixel of a row, the first and the last row.
-fn first_column(sheet: &[u8]) -> u32
-    requires { ⌜ Accepted (now sheet) ⌝ }
-    ensures { λ r. ⌜ r ≡ firstX (now (sheet .entry)) ⌝ }
-{
-    line_x(sheet, 0)
-}
-
+// The last lines of the mesh: the last pixel of a row, the last row.
 fn last_column(sheet: &[u8]) -> u32
     requires { ⌜ Accepted (now sheet) ⌝ }
     ensures { λ r. ⌜ r ≡ lastX (now (sheet .entry)) ⌝ }
 {
     line_x(sheet, columns(sheet) - 1)
-}
-
-pub fn first_row(sheet: &[u8]) -> u32
-    requires { ⌜ Accepted (now sheet) ⌝ }
-    ensures { λ r. ⌜ r ≡ firstY (now (sheet .entry)) ⌝ }
-{
-    line_y(sheet, 0)
 }
 
 pub fn last_row(sheet: &[u8]) -> u32

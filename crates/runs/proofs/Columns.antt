@@ -10,37 +10,37 @@ use Rattle.sheet.specs.Format.{columns, lineX}
 use Rattle.surface.specs.Place.{HasCell, columnAt}
 use Rattle.surface.proofs.Along.{along-starts, along-last, along-in, axis-cell, axis-ends}
 use Rattle.surface.proofs.Cells.{sound, x-rising, last-x-near}
-use Rattle.runs.specs.Strips.{doneIn, OnStrip}
+use Rattle.runs.specs.Strips.{doneIn, AtColumn}
 use Rattle.runs.specs.declared.Strip.{Strip}
 
-module _ (s : List ℕ) (t : Strip) (x count : ℕ) (on : OnStrip s t x count) (done : ℕ) (more : done < count) (column : ℕ) (here : column ≡ columnAt s (x + done)) where
+module _ {s : List ℕ} {t : Strip} {x count done column : ℕ} (at : AtColumn s t x count done column) where
   -- no pixel of a run lies beyond the last line
   pub run-near : x + count ≤ 4097
-  run-near = omega (arith, on .to, last-x-near s (on .accepted))
+  run-near = omega (arith, at .on .to, last-x-near s (at .on .accepted))
 
   -- both lines of the column are lines of the sheet
   column-there : suc column < columns s
   unfolding columnAt
-  column-there = rw here (axis-cell (lineX s) (sound s (on .accepted) .fewColumns) (x + done))
+  column-there = rw (at .here) (axis-cell (lineX s) (sound s (at .on .accepted) .fewColumns) (x + done))
 
   pub strip-cell : HasCell s column (t .row)
-  strip-cell = record { column = column-there; row = on .row }
+  strip-cell = record { column = column-there; row = at .on .row }
 
   -- the pixel lies between them
   pub column-starts : lineX s column ≤ x + done
   unfolding columnAt
-  column-starts = rw here (along-starts (lineX s) (x + done) (columns s - 2) (omega (arith, on .from)))
+  column-starts = rw (at .here) (along-starts (lineX s) (x + done) (columns s - 2) (omega (arith, at .on .from)))
 
   pub column-ends : x + done ≤ lineX s (suc column)
   unfolding columnAt
-  column-ends = rw here (axis-ends (lineX s) (sound s (on .accepted) .fewColumns) (x + done) (omega (arith, on .to)))
+  column-ends = rw (at .here) (axis-ends (lineX s) (sound s (at .on .accepted) .fewColumns) (x + done) (omega (arith, at .on .to)))
 
   -- before the second, where it is not the last
   before-next : ¬ (column + 2 ≡ columns s) → x + done < lineX s (suc column)
   unfolding columnAt
   before-next inner = elim (decLt (x + done) (lineX s (suc column))) [
     | yes h ↦ h
-    | no h ↦ absurd (let late : suc column ≤ columnAt s (x + done) = along-last (lineX s) (x + done) (columns s - 2) (suc column) (omega (arith, column-there, inner)) (omega arith) in omega (arith, here))
+    | no h ↦ absurd (let late : suc column ≤ columnAt s (x + done) = along-last (lineX s) (x + done) (columns s - 2) (suc column) (omega (arith, column-there, inner)) (omega arith) in omega (arith, at .here))
   ]
 
   -- the run's first e pixels are those up to the end of this column, or all
@@ -55,11 +55,11 @@ module _ (s : List ℕ) (t : Strip) (x count : ℕ) (on : OnStrip s t x count) (
   ends-last : column + 2 ≡ columns s → Ends count
   unfolding columnAt
   ends-last last = let last-line : columns s - 1 ≡ suc column = omega arith in record {
-    further = more;
+    further = at .more;
     most = omega arith;
-    fits = rw (← last-line) (on .to);
+    fits = rw (← last-line) (at .on .to);
     same = λ k l. le-antisymm
-        (let there = axis-cell (lineX s) (sound s (on .accepted) .fewColumns) (x + (done + k)) in omega arith)
+        (let there = axis-cell (lineX s) (sound s (at .on .accepted) .fewColumns) (x + (done + k)) in omega arith)
         (along-last (lineX s) (x + (done + k)) (columns s - 2) column (omega (arith, column-there)) (omega (arith, column-starts)));
     next = λ l. absurd (omega arith);
   }
@@ -67,7 +67,7 @@ module _ (s : List ℕ) (t : Strip) (x count : ℕ) (on : OnStrip s t x count) (
   -- in another, those before the next line
   ends-inner : ¬ (column + 2 ≡ columns s) → (e : ℕ) → done < e → e ≤ count → x + e ≤ lineX s (suc column) → (e < count → x + e ≡ lineX s (suc column)) → Ends e
   unfolding columnAt
-  ends-inner inner e further most within full = let there = column-there in let rising = x-rising s (on .accepted) in record {
+  ends-inner inner e further most within full = let there = column-there in let rising = x-rising s (at .on .accepted) in record {
     further = further;
     most = most;
     fits = omega arith;

@@ -15,25 +15,25 @@ use Rattle.corners.specs.Held.{corners, arrays, cell}
 use Rattle.corners.proofs.Arrays.{held}
 use Rattle.evaluation.specs.declared.Pixel.{Pixel}
 use Rattle.sheet.specs.Format.{lineX}
-use Rattle.surface.specs.Place.{cellOf, columnAt, place}
+use Rattle.surface.specs.Place.{cellOf, place}
 use Rattle.surface.specs.Surface.{nodesOf, setOf, levelAt, level}
 use Rattle.surface.specs.Run.{begun}
 use Rattle.surface.proofs.Cells.{gap-side, x-rising, y-rising, numbers-within}
 use Rattle.surface.proofs.Runs.{none-done, one-more}
-use Rattle.spans.specs.Span.{toRight, levelIn, laid}
-use Rattle.spans.specs.Needs.{InCell}
-use Rattle.runs.specs.Strips.{stripAt, levelOn, doneIn, OnStrip}
+use Rattle.spans.specs.Span.{toRight, cellLevel, laid}
+use Rattle.spans.specs.Needs.{FitsCell}
+use Rattle.runs.specs.Strips.{stripAt, stripLevel, doneIn, AtColumn}
 use Rattle.runs.specs.declared.Strip.{Strip}
 use Rattle.runs.proofs.Columns.{strip-cell, column-starts, column-ends, ends}
 
 -- the level at (x, y) is that at x in the strip of y
-pub on-strip : (s : List ℕ) (x y : ℕ) → levelOn s (stripAt s y) x ≡ level s x y
-unfolding levelOn stripAt level place
+on-strip : (s : List ℕ) (x y : ℕ) → stripLevel s (stripAt s y) x ≡ level s x y
+unfolding stripLevel stripAt level place
 on-strip s x y = refl
 
 -- ---- in one column
 
-module _ (s : List ℕ) (t : Strip) (x count : ℕ) (on : OnStrip s t x count) (done : ℕ) (more : done < count) (i : ℕ) (here : i ≡ columnAt s (x + done)) where
+module _ {s : List ℕ} {t : Strip} {x count done i : ℕ} (at : AtColumn s t x count done i) where
   abbrev width : ℕ
   width = lineX s (suc i) - lineX s i
 
@@ -41,14 +41,14 @@ module _ (s : List ℕ) (t : Strip) (x count : ℕ) (on : OnStrip s t x count) (
   abbrev pub nextPixel : Pixel
   nextPixel = record { a = x + done - lineX s i; b = t .offset; width = width; height = t .height }
 
-  pub pixels-fit : InCell nextPixel (doneIn s x i count - done)
-  pixels-fit = let e = ends s t x count on done more i here in let c = strip-cell s t x count on done more i here in
-      let from = column-starts s t x count on done more i here in let to = column-ends s t x count on done more i here in record {
+  pub pixels-fit : FitsCell nextPixel (doneIn s x i count - done)
+  pixels-fit = let e = ends at in let c = strip-cell at in
+      let from = column-starts at in let to = column-ends at in record {
         inside = record {
-          width = gap-side (x-rising s (on .accepted)) i (c .column);
-          height = rw (on .height) (gap-side (y-rising s (on .accepted)) (t .row) (c .row));
+          width = gap-side (x-rising s (at .on .accepted)) i (c .column);
+          height = rw (at .on .height) (gap-side (y-rising s (at .on .accepted)) (t .row) (c .row));
           across = omega arith;
-          down = on .offset;
+          down = at .on .offset;
         };
         fits = omega (arith, e .fits, e .further);
       }
@@ -56,7 +56,7 @@ module _ (s : List ℕ) (t : Strip) (x count : ℕ) (on : OnStrip s t x count) (
   -- its cell's corner numbers are in range
   pub column-within : AllWithin largest (cornerNumbers (cell width (t .height)) (nodesOf s i (t .row)))
   unfolding cellOf
-  column-within = rw (on .height) (numbers-within s (on .accepted) i (t .row) (strip-cell s t x count on done more i here))
+  column-within = rw (at .on .height) (numbers-within s (at .on .accepted) i (t .row) (strip-cell at))
 
   -- the level a pixels from the left edge of a cell in this column, h pixels high, with these corner numbers
   abbrev levelFrom : CornerNumbers → ℕ → ℕ → ℤ
@@ -67,23 +67,23 @@ module _ (s : List ℕ) (t : Strip) (x count : ℕ) (on : OnStrip s t x count) (
   seenFrom c p = let a = p - lineX s c in levelAt s (record { column = c; row = t .row; a = a; b = t .offset; piece = pieceAt (pixel (cellOf s c (t .row)) a (t .offset)) })
 
   pub column-levels : {n : List (List ℤ)} → n ≡ arrays (cornerNumbers (cell width (t .height)) (nodesOf s i (t .row))) →
-      (k : ℕ) → done + k < doneIn s x i count → levelIn (corners n) (toRight nextPixel k) ≡ levelOn s t (x + (done + k))
-  unfolding levelIn levelOn levelAt setOf element cellOf
+      (k : ℕ) → done + k < doneIn s x i count → cellLevel (corners n) (toRight nextPixel k) ≡ stripLevel s t (x + (done + k))
+  unfolding cellLevel stripLevel levelAt setOf element cellOf
   column-levels e k l =
-      let from = column-starts s t x count on done more i here in
+      let from = column-starts at in
       let across : x + done - lineX s i + k ≡ x + (done + k) - lineX s i = omega arith in
       (λ j. levelFrom (held _ e j) (t .height) (across j))
-      ∙ (λ j. levelFrom (cornerNumbers (cell width (on .height j)) (nodesOf s i (t .row))) (on .height j) (x + (done + k) - lineX s i))
-      ∙ sym (ap (λ c. seenFrom c (x + (done + k))) (ends s t x count on done more i here .same k l))
+      ∙ (λ j. levelFrom (cornerNumbers (cell width (at .on .height j)) (nodesOf s i (t .row))) (at .on .height j) (x + (done + k) - lineX s i))
+      ∙ sym (ap (λ c. seenFrom c (x + (done + k))) (ends at .same k l))
 
 -- ---- in all
 
 -- places laid one by one are those of the run
-pub laid-begun : (s : List ℕ) (x y : ℕ) (row : List ℤ) (k : ℕ) → k ≤ length row → laid (λ j. levelOn s (stripAt s y) (x + j)) 0 k row ≡ begun s x y k row
+pub laid-begun : (s : List ℕ) (x y : ℕ) (row : List ℤ) (k : ℕ) → k ≤ length row → laid (λ j. stripLevel s (stripAt s y) (x + j)) 0 k row ≡ begun s x y k row
 unfolding laid
 laid-begun s x y row zero h = sym (none-done s x y row)
 laid-begun s x y row (suc k) h =
-    ap (λ (r : List ℤ). set r (0 + k) (levelOn s (stripAt s y) (x + k))) (laid-begun s x y row k (omega arith))
-    ∙ ap (λ (j : ℕ). set (begun s x y k row) j (levelOn s (stripAt s y) (x + k))) (zero-add k)
+    ap (λ (r : List ℤ). set r (0 + k) (stripLevel s (stripAt s y) (x + k))) (laid-begun s x y row k (omega arith))
+    ∙ ap (λ (j : ℕ). set (begun s x y k row) j (stripLevel s (stripAt s y) (x + k))) (zero-add k)
     ∙ ap (set (begun s x y k row) k) (on-strip s (x + k) y)
     ∙ sym (one-more s x y k row h)

@@ -9,19 +9,20 @@ use native.Mathlib.Omega.{arith}
 use lib.IntN.{ℤ}
 use lib.ListN.{length}
 use Rattle.sheet.specs.Format.{columns, lineX}
+use Rattle.sheet.specs.WellFormed.{OnMesh}
 use Rattle.surface.specs.Place.{columnAt, rowAt, place}
 use Rattle.surface.specs.Run.{begun}
 use Rattle.surface.proofs.Cells.{sound}
 use Rattle.surface.proofs.Places.{has-cell, there}
 use Rattle.spans.specs.Span.{laid}
 use Rattle.spans.proofs.Laid.{laid-length, laid-none, laid-join, laid-all}
-use Rattle.runs.specs.Strips.{stripAt, levelOn, doneIn, OnMesh, OnStrip}
+use Rattle.runs.specs.Strips.{stripAt, stripLevel, doneIn, OnStrip}
 use Rattle.runs.proofs.Columns.{strip-cell, Ends, ends}
 use Rattle.runs.proofs.Levels.{laid-begun}
 
 module _ (s : List ℕ) (x y count : ℕ) (mesh : OnMesh s x y count) where
   -- the last pixel of a run lies on the last line or before it
-  to-last : x + count ≤ suc (lineX s (columns s - 1))
+  pub to-last : x + count ≤ suc (lineX s (columns s - 1))
   to-last = elim (decLt 0 count) [
     | yes h ↦ let last = mesh .each (count - 1) (omega arith) .right in omega arith
     | no h ↦ omega (arith, mesh .first .right)
@@ -40,7 +41,7 @@ module _ (s : List ℕ) (x y count : ℕ) (mesh : OnMesh s x y count) where
 
   -- the level of the pixel k to the right
   abbrev levelOf : ℕ → ℤ
-  levelOf k = levelOn s (stripAt s y) (x + k)
+  levelOf k = stripLevel s (stripAt s y) (x + k)
 
   module _ (row₀ : List ℤ) where
     pub record Underway (row : List ℤ) (column done : ℕ) : Type 0 where
@@ -57,11 +58,11 @@ module _ (s : List ℕ) (x y count : ℕ) (mesh : OnMesh s x y count) where
 
       -- through one column
       module _ (more : done < count) {e : ℕ} (end : e ≡ doneIn s x column count) where
-        abbrev ended : Ends s (stripAt s y) x count in-strip done more column (u .here more) (doneIn s x column count)
-        ended = ends s (stripAt s y) x count in-strip done more column (u .here more)
+        abbrev ended : Ends (record { on = in-strip; more = more; here = u .here more }) (doneIn s x column count)
+        ended = ends (record { on = in-strip; more = more; here = u .here more })
 
         pub column-near : column < 65
-        column-near = let there = strip-cell s (stripAt s y) x count in-strip done more column (u .here more) .column in
+        column-near = let there = strip-cell (record { on = in-strip; more = more; here = u .here more }) .column in
             omega (arith, there, sound s (mesh .accepted) .manyColumns)
 
         pub further : done < e

@@ -9,7 +9,6 @@ use Rattle.sibson.specs.Cubic.{pixel}
 use Rattle.sibson.specs.Piece.{pieceAt}
 use Rattle.sheet.specs.Format.{columns, rows, lineX, lineY}
 use Rattle.sheet.specs.Refusals.{Accepted}
-use Rattle.sheet.specs.WellFormed.{Inside}
 use Rattle.surface.specs.Place.{cellOf, columnAt, rowAt}
 use Rattle.surface.specs.Surface.{levelAt}
 use Rattle.runs.specs.declared.Strip.{Strip}
@@ -19,8 +18,8 @@ unfoldable pub stripAt : List ℕ → ℕ → Strip
 stripAt s y = let j = rowAt s y in record { row = j; offset = y - lineY s j; height = lineY s (suc j) - lineY s j }
 
 -- the level at x in a strip; in that of y it is the level at (x, y)
-unfoldable pub levelOn : List ℕ → Strip → ℕ → ℤ
-levelOn s t x =
+unfoldable pub stripLevel : List ℕ → Strip → ℕ → ℤ
+stripLevel s t x =
     let i = columnAt s x in let a = x - lineX s i in
     levelAt s (record { column = i; row = t .row; a = a; b = t .offset; piece = pieceAt (pixel (cellOf s i (t .row)) a (t .offset)) })
 
@@ -30,12 +29,6 @@ doneIn s x column count = cond (eqb (column + 2) (columns s)) count (min count (
 
 -- ---- what the code asks
 
--- an accepted sheet, and of its mesh the pixel (x, y) and all pixels of a run from there
-pub record OnMesh (s : List ℕ) (x y count : ℕ) : Type 0 where
-  pub accepted : Accepted s
-  pub first : Inside s x y
-  pub each : (k : ℕ) → k < count → Inside s (x + k) y
-
 -- an accepted sheet, a strip of its cells, and the columns from the first line to the last
 pub record OnStrip (s : List ℕ) (t : Strip) (x count : ℕ) : Type 0 where
   pub accepted : Accepted s
@@ -44,3 +37,9 @@ pub record OnStrip (s : List ℕ) (t : Strip) (x count : ℕ) : Type 0 where
   pub height : t .height ≡ lineY s (suc (t .row)) - lineY s (t .row)
   pub from : lineX s 0 ≤ x
   pub to : x + count ≤ suc (lineX s (columns s - 1))
+
+-- such a run, of which some pixels are done, and the next lies in this column
+pub record AtColumn (s : List ℕ) (t : Strip) (x count done column : ℕ) : Type 0 where
+  pub on : OnStrip s t x count
+  pub more : done < count
+  pub here : column ≡ columnAt s (x + done)

@@ -4,10 +4,10 @@ ghost use Prim.Native.Nat.{suc, _+_, _-_, _≤_, _<_};
 ghost use lib.ListN.{length};
 ghost use Rattle.sheet.specs.Format.{columns, lineX};
 ghost use Rattle.sheet.specs.Refusals.{Accepted};
-ghost use Rattle.surface.specs.Place.{columnAt};
+ghost use Rattle.sheet.specs.WellFormed.{OnMesh};
 ghost use Rattle.surface.specs.Run.{begun};
 ghost use Rattle.spans.specs.Span.{laid};
-ghost use Rattle.runs.specs.Strips.{levelOn, doneIn, OnMesh, OnStrip};
+ghost use Rattle.runs.specs.Strips.{stripLevel, doneIn, AtColumn};
 use cells::corner_numbers;
 use checking::columns;
 use checking::line_x;
@@ -53,13 +53,14 @@ fn fill_column(
     done: usize,
     count: usize,
 ) -> usize
-    requires { ⌜ OnStrip (now sheet) strip x count × (done < count) × (column ≡ columnAt (now sheet) (x + done)) × (count ≤ length (now row)) ⌝ }
+    requires { ⌜ AtColumn (now sheet) strip x count done column × (count ≤ length (now row)) ⌝ }
     ensures answer { λ r. ⌜ r ≡ doneIn (now (sheet .entry)) x column count ⌝ }
-    ensures row { λ r. ⌜ now (row .exit) ≡ laid (λ k. levelOn (now (sheet .entry)) strip (x + (done + k))) done (r - done) (now (row .entry)) ⌝ }
+    ensures row { λ r. ⌜ now (row .exit) ≡ laid (λ k. stripLevel (now (sheet .entry)) strip (x + (done + k))) done (r - done) (now (row .entry)) ⌝ }
 {
     let left = line_x(sheet, column) as usize;
-    let width = line_x(sheet, column + 1) as usize - left;
-    let end = done_in(sheet, column, x, count);
+    let right = line_x(sheet, column + 1) as usize;
+    let width = right - left;
+    let end = done_in(sheet, column, right, x, count);
     let n = corner_numbers(sheet, column, strip.row, width, strip.height);
     let next = Pixel {
         a: x + done - left,
@@ -71,13 +72,13 @@ fn fill_column(
     end
 }
 
-// How many of the run's pixels are done when those in this column are.
-fn done_in(sheet: &[u8], column: usize, x: usize, count: usize) -> usize
-    requires { ⌜ Accepted (now sheet) × (suc column < columns (now sheet)) × (x ≤ lineX (now sheet) (suc column)) ⌝ }
+// How many of the run's pixels are done when those in this column, up to its right line, are.
+fn done_in(sheet: &[u8], column: usize, right: usize, x: usize, count: usize) -> usize
+    requires { ⌜ Accepted (now sheet) × (suc column < columns (now sheet)) × (right ≡ lineX (now sheet) (suc column)) × (x ≤ right) ⌝ }
     ensures { λ r. ⌜ r ≡ doneIn (now (sheet .entry)) x column count ⌝ }
 {
     if column + 2 == columns(sheet) {
         return count;
     }
-    least(count, line_x(sheet, column + 1) as usize - x)
+    least(count, right - x)
 }

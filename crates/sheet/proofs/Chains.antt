@@ -10,7 +10,7 @@ use Rattle.integers.proofs.Deduce.{both}
 use Rattle.sheet.specs.Format.{columns, rows, Node, nodeIn}
 use Rattle.sheet.specs.Refusals.{Input, Rule, rule, otherMark, otherVersion, otherCounts, otherLength, wrongLines, wrongNodes, outside, offMesh, emptyRun, otherKind, noNode, wrongNumbers, table, first, member, part, sheetChecks, lookupChecks, zeroNode, atPixel, atNode, checkRefusal, lookupRefusal, settingRefusal, readingRefusal, runRefusal, Accepted}
 use Rattle.sheet.specs.RefusalLaws.{Each}
-use Rattle.sheet.specs.WellFormed.{Inside}
+use Rattle.sheet.specs.WellFormed.{Inside, OnMesh}
 use Rattle.sheet.proofs.Conditions.{condition-laws}
 
 pub check-is : (s : List ℕ)
@@ -190,28 +190,17 @@ reading-taken {s} {x} {y} {kind} h =
       others = rw (condition-laws .nine kind .1 (h .kind)) refl;
     }))
 
--- a run that is not refused: every pixel of it lies in the mesh, and it has one
-pub record HasRun (s : List ℕ) (x y count : ℕ) : Type 0 where
-  pub accepted : Accepted s
-  pub first : Inside s x y
-  pub each : (k : ℕ) → k < count → Inside s (x + k) y
-  pub nonempty : 0 < count
-
 -- the mesh holds what lies between two of its pixels in a row
 between : {s : List ℕ} {x y n : ℕ} → Inside s x y → Inside s (x + n) y → (k : ℕ) → k ≤ n → Inside s (x + k) y
 between first last k l =
     record { left = omega (arith, first .left); right = omega (arith, last .right); top = first .top; bottom = first .bottom }
 
-pub run-held : (s : List ℕ) (x y count : ℕ) → runRefusal s x y count ≡ 0 → HasRun s x y count
+-- a run that is not refused has a last pixel, so all its pixels are of the mesh
+pub run-held : (s : List ℕ) (x y count : ℕ) → runRefusal s x y count ≡ 0 → OnMesh s x y count
 run-held s x y count e =
     let h = pixel-held s x y count _ (sym (run-is s x y count) ∙ e) in
     let some = condition-laws .eight count .0 (not-given (emptyRun count) 7 (h .others)) in
-    record {
-      accepted = h .accepted;
-      first = h .first;
-      each = λ k l. between (h .first) (h .last (count - 1) (omega arith)) k (omega arith);
-      nonempty = some;
-    }
+    record { accepted = h .accepted; first = h .first; each = λ k l. between (h .first) (h .last (count - 1) (omega arith)) k (omega arith) }
 
 pub run-taken : (s : List ℕ) (x y k : ℕ) → Accepted s → Inside s x y → Inside s (x + k) y → runRefusal s x y (suc k) ≡ 0
 run-taken s x y k accepted first last =

@@ -29,6 +29,12 @@ pub record Inside (s : List ℕ) (x y : ℕ) : Type 0 where
   pub top : lineY s 0 ≤ y
   pub bottom : y ≤ lineY s (rows s - 1)
 
+-- the sheet is accepted, and the pixel (x, y) and all count pixels of a run from there are of its mesh
+pub record OnMesh (s : List ℕ) (x y count : ℕ) : Type 0 where
+  pub accepted : Accepted s
+  pub first : Inside s x y
+  pub each : (k : ℕ) → k < count → Inside s (x + k) y
+
 -- what each of 01's conditions says, by what holds exactly where it does not
 pub record ConditionLaws : Type 0 where
   pub one : (s : List ℕ) → (otherMark s ≡ false) ↔ ((8 ≤ length s) × (byteAt s 0 ≡ 0x4C) × (byteAt s 1 ≡ 0x56) × (byteAt s 2 ≡ 0x53))

@@ -4,10 +4,10 @@ use native.Mathlib.Omega.{arith}
 use Rattle.evaluation.specs.Pixels.{Inside}
 use Rattle.evaluation.specs.declared.Pixel.{Pixel}
 use Rattle.spans.specs.Span.{toRight}
-use Rattle.spans.specs.Needs.{InCell}
+use Rattle.spans.specs.Needs.{FitsCell}
 
 pub inside-at : {p : Pixel} → Inside p → {a : ℕ} → a ≤ p .width → Inside (record { a = a; b = p .b; width = p .width; height = p .height })
 inside-at i l = record { width = i .width; height = i .height; across = l; down = i .down }
 
-pub inside-right : (p : Pixel) {count k : ℕ} → InCell p count → k < count → Inside (toRight p k)
+pub inside-right : (p : Pixel) {count k : ℕ} → FitsCell p count → k < count → Inside (toRight p k)
 inside-right p c l = inside-at (c .inside) (omega (arith, c .fits))

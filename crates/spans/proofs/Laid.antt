@@ -1,4 +1,4 @@
--- A row of which some places are anew: place by place, two stretches as one, and the row keeps its length. Assumes nothing.
+-- A row with some places rewritten: place by place, two stretches as one, and the row keeps its length. Assumes nothing.
 use Prim.Native.Nat.{ℕ, zero, suc, _+_, _≤_, _<_}
 use mathlib.Core.Path.{_≡_, refl, sym, _∙_, ap}
 use mathlib.Core.List.{List}

@@ -1,11 +1,12 @@
 -- Where the spans of a row end: a piece that holds a pixel holds those to its right before its end, and no others. Assumes nothing.
 use Prim.Native.Nat.{ℕ, _+_, _*_, _≤_, _<_}
-use mathlib.Core.Path.{sym, subst}
+use mathlib.Core.Path.{_≡_, sym, subst}
 use native.Mathlib.Nat.{mul-le-mul-right}
 use native.Mathlib.Omega.{arith}
 use Rattle.sibson.specs.Piece.{Piece, top, right, bottom, left}
+use Rattle.evaluation.specs.Pixels.{Inside}
 use Rattle.evaluation.specs.declared.Pixel.{Pixel}
-use Rattle.spans.specs.Span.{toRight, pieceOf, endOf, SpanLaws}
+use Rattle.spans.specs.Span.{toRight, pixelPiece, endOf, SpanLaws}
 use Rattle.spans.proofs.Divisions.{below-floor, below-ceiling}
 use Rattle.spans.proofs.InRow.{inside-at}
 use Rattle.spans.proofs.Products.{Holds, piece-is, piece-holds}
@@ -30,11 +31,17 @@ module _ (p : Pixel) (high : 0 < p .height) where
   up-to-end bottom l h e = (below-ceiling high .0 e, omega (arith, mul-le-mul-right (p .height) l))
   up-to-end left l h e = omega (arith, below-ceiling high .0 e)
 
+-- the piece k holds the pixel
+held-by : (p : Pixel) → Inside p → {k : Piece} → pixelPiece p ≡ k → Holds k (p .a * p .height) (p .b * p .width) (p .width * p .height)
+held-by p i e = subst (λ k. Holds k (p .a * p .height) (p .b * p .width) (p .width * p .height)) e (piece-holds p i)
+
 pub span-laws : SpanLaws
 span-laws = record {
-  starts = λ p i. before-end p (i .height .least) (pieceOf p) (p .a) (i .across) (piece-holds p i);
-  same = λ p k i l. sym (piece-is (toRight p k) i (pieceOf p) (up-to-end p (i .height .least) (pieceOf p) (omega arith) (piece-holds p (inside-at i (omega (arith, i .across)))) l));
+  starts = λ p i. before-end p (i .height .least) (pixelPiece p) (p .a) (i .across) (piece-holds p i);
+  same = λ p k i l. sym (piece-is (toRight p k) i (pixelPiece p) (up-to-end p (i .height .least) (pixelPiece p) (omega arith) (piece-holds p (inside-at i (omega (arith, i .across)))) l));
   beyond = λ p k i l e.
       let h = subst (λ q. At p (i .height .least) q (p .a + k)) e (piece-holds (toRight p k) i) in
-      omega (arith, before-end p (i .height .least) (pieceOf p) (p .a + k) (i .across) h);
+      omega (arith, before-end p (i .height .least) (pixelPiece p) (p .a + k) (i .across) h);
+  topOnly = λ p k i e f. omega (arith, held-by p (inside-at i (omega (arith, i .across))) e, held-by (toRight p k) i f);
+  bottomOnly = λ p k i e f. omega (arith, held-by p (inside-at i (omega (arith, i .across))) e, held-by (toRight p k) i f);
 }

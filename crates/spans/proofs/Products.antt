@@ -7,7 +7,7 @@ use Rattle.sibson.specs.Piece.{Piece, top, right, bottom, left}
 use Rattle.evaluation.specs.Pixels.{Inside}
 use Rattle.evaluation.specs.declared.Pixel.{Pixel}
 use Rattle.places.proofs.Pieces.{at-top, at-right, at-bottom, at-left}
-use Rattle.spans.specs.Span.{pieceOf}
+use Rattle.spans.specs.Span.{pixelPiece}
 
 abbrev pub Holds : Piece → ℕ → ℕ → ℕ → Type 0
 Holds top x y q = (y ≤ x) × (x + y ≤ q)
@@ -23,12 +23,12 @@ some-piece x y q =
     ]
 
 module _ (p : Pixel) (i : Inside p) where
-  pub piece-is : (k : Piece) → Holds k (p .a * p .height) (p .b * p .width) (p .width * p .height) → k ≡ pieceOf p
+  pub piece-is : (k : Piece) → Holds k (p .a * p .height) (p .b * p .width) (p .width * p .height) → k ≡ pixelPiece p
   piece-is top h = at-top p i (h .0) (h .1)
   piece-is right h = at-right p i (h .0) (h .1)
   piece-is bottom h = at-bottom p i (h .0) (h .1)
   piece-is left h = at-left p i (h .0) (h .1)
 
-  pub piece-holds : Holds (pieceOf p) (p .a * p .height) (p .b * p .width) (p .width * p .height)
+  pub piece-holds : Holds (pixelPiece p) (p .a * p .height) (p .b * p .width) (p .width * p .height)
   piece-holds = let h = some-piece (p .a * p .height) (p .b * p .width) (p .width * p .height) in
       subst (λ k. Holds k (p .a * p .height) (p .b * p .width) (p .width * p .height)) (piece-is (h .0) (h .1)) (h .1)

@@ -11,7 +11,7 @@ use Rattle.evaluation.specs.Pixels.{Inside}
 use Rattle.evaluation.specs.declared.Pixel.{Pixel}
 
 -- a pixel of its cell, and count pixels from it on that lie in the cell, the right edge included
-pub record InCell (p : Pixel) (count : ℕ) : Type 0 where
+pub record FitsCell (p : Pixel) (count : ℕ) : Type 0 where
   pub inside : Inside p
   pub fits : p .a + count ≤ suc (p .width)
 

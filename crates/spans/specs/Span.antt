@@ -1,4 +1,4 @@
--- A row of pixels in one cell: the level at each, where its spans end (one for each piece that it crosses), and a row of which some places are anew. Assumes nothing.
+-- A row of pixels in one cell: the level at each, where its spans end (one for each piece that it crosses), and a row with some places rewritten. Assumes nothing.
 use Prim.Native.Nat.{ℕ, zero, suc, _+_, _*_, _-_, _/_, _≤_, _<_, min}
 use mathlib.Core.Path.{_≡_}
 use mathlib.Core.List.{List}
@@ -15,11 +15,11 @@ abbrev pub toRight : Pixel → ℕ → Pixel
 toRight p k = record { a = p .a + k; b = p .b; width = p .width; height = p .height }
 
 -- the piece of a pixel, and the level there of the set we read from with these corner numbers
-abbrev pub pieceOf : Pixel → Piece
-pieceOf p = pieceAt (pointOf p)
+abbrev pub pixelPiece : Pixel → Piece
+pixelPiece p = pieceAt (pointOf p)
 
-unfoldable pub levelIn : CornerNumbers → Pixel → ℤ
-levelIn n p = level (cellOf p) (sibson n (pieceOf p)) (pointOf p)
+unfoldable pub cellLevel : CornerNumbers → Pixel → ℤ
+cellLevel n p = level (cellOf p) (sibson n (pixelPiece p)) (pointOf p)
 
 -- n / d, rounded up
 unfoldable pub ceiling : ℕ → ℕ → ℕ
@@ -35,13 +35,16 @@ endOf left p = ceiling (min (p .b * p .width) (p .width * p .height - p .b * p .
 
 -- a pixel's piece holds the pixels of the cell to its right that lie before that end, and none from there on
 pub record SpanLaws : Type 0 where
-  pub starts : (p : Pixel) → Inside p → p .a < endOf (pieceOf p) p
-  pub same : (p : Pixel) (k : ℕ) → Inside (toRight p k) → p .a + k < endOf (pieceOf p) p → pieceOf (toRight p k) ≡ pieceOf p
-  pub beyond : (p : Pixel) (k : ℕ) → Inside (toRight p k) → endOf (pieceOf p) p ≤ p .a + k → ¬ (pieceOf (toRight p k) ≡ pieceOf p)
+  pub starts : (p : Pixel) → Inside p → p .a < endOf (pixelPiece p) p
+  pub same : (p : Pixel) (k : ℕ) → Inside (toRight p k) → p .a + k < endOf (pixelPiece p) p → pixelPiece (toRight p k) ≡ pixelPiece p
+  pub beyond : (p : Pixel) (k : ℕ) → Inside (toRight p k) → endOf (pixelPiece p) p ≤ p .a + k → ¬ (pixelPiece (toRight p k) ≡ pixelPiece p)
+  -- no row has pixels of top and of bottom, so it has three spans at most
+  pub topOnly : (p : Pixel) (k : ℕ) → Inside (toRight p k) → pixelPiece p ≡ top → ¬ (pixelPiece (toRight p k) ≡ bottom)
+  pub bottomOnly : (p : Pixel) (k : ℕ) → Inside (toRight p k) → pixelPiece p ≡ bottom → ¬ (pixelPiece (toRight p k) ≡ top)
 
 -- ---- places of a lent row
 
--- count places anew, from index at on: place at + k holds f k
+-- count places rewritten, from index at on: place at + k holds f k
 unfoldable pub laid : (ℕ → ℤ) → ℕ → ℕ → List ℤ → List ℤ
 laid f at zero row = row
 laid f at (suc k) row = set (laid f at k row) (at + k) (f k)

@@ -11,16 +11,16 @@ ghost use Rattle.corners.specs.Held.{corners};
 ghost use Rattle.rows.specs.Row.{atOffset};
 ghost use Rattle.pieces.specs.Parts as parts;
 ghost use Rattle.evaluation.specs.Pixels.{Inside};
-ghost use Rattle.spans.specs.Span.{toRight, pieceOf, levelIn, ceiling, endOf, laid};
-ghost use Rattle.spans.specs.Needs.{InCell, Level, Levels};
+ghost use Rattle.spans.specs.Span.{toRight, pixelPiece, cellLevel, ceiling, endOf, laid};
+ghost use Rattle.spans.specs.Needs.{FitsCell, Level, Levels};
 use evaluation::Pixel;
 use integers::Denominator;
 use pieces::Piece;
 
 // Fills `count` places of the row from index `at` on: with the level at a pixel of a cell, and those to its right in the same cell.
 pub fn fill_cell(row: &mut [i32], at: usize, count: usize, n: [[i64; 3]; 4], first: Pixel)
-    requires { ⌜ AllWithin largest (corners n) × InCell first count × (at + count ≤ length (now row)) ⌝ }
-    ensures { λ _. ⌜ now (row .exit) ≡ laid (λ k. levelIn (corners n) (toRight first k)) at count (now (row .entry)) ⌝ }
+    requires { ⌜ AllWithin largest (corners n) × FitsCell first count × (at + count ≤ length (now row)) ⌝ }
+    ensures { λ _. ⌜ now (row .exit) ≡ laid (λ k. cellLevel (corners n) (toRight first k)) at count (now (row .entry)) ⌝ }
 {
     let mut done: usize = 0;
     while done < count {
@@ -36,9 +36,9 @@ pub fn fill_cell(row: &mut [i32], at: usize, count: usize, n: [[i64; 3]; 4], fir
 
 // Fills the places of one span, of `count` at most, and answers how many they are. Coefficients and denominator are worked out once.
 fn fill_span(row: &mut [i32], at: usize, count: usize, n: [[i64; 3]; 4], first: Pixel) -> usize
-    requires { ⌜ AllWithin largest (corners n) × InCell first count × (at + count ≤ length (now row)) ⌝ }
-    ensures answer { λ r. ⌜ r ≡ min count (endOf (pieceOf first) first - first .a) ⌝ }
-    ensures row { λ r. ⌜ now (row .exit) ≡ laid (λ k. levelIn (corners n) (toRight first k)) at r (now (row .entry)) ⌝ }
+    requires { ⌜ AllWithin largest (corners n) × FitsCell first count × (at + count ≤ length (now row)) ⌝ }
+    ensures answer { λ r. ⌜ r ≡ min count (endOf (pixelPiece first) first - first .a) ⌝ }
+    ensures row { λ r. ⌜ now (row .exit) ≡ laid (λ k. cellLevel (corners n) (toRight first k)) at r (now (row .entry)) ⌝ }
 {
     let piece = places::piece(first);
     let size = least(count, span_end(piece, first) - first.a);
@@ -54,6 +54,7 @@ fn span_end(piece: Piece, p: Pixel) -> usize
     requires { ⌜ Inside p ⌝ }
     ensures { λ r. ⌜ r ≡ endOf (parts.pieceOf piece) p ⌝ }
 {
+    // s and 1 − s, times the cell's area
     let y = p.b * p.width;
     let rest = p.width * p.height - y;
     match piece {

@@ -45,7 +45,7 @@ one-more s x y zero (z ∷ row) h = rw (add-zero x) refl
 one-more s x y (suc k) (z ∷ row) h =
     ap (λ (r : List ℤ). level s x y ∷ r) (one-more s (suc x) y k row (omega (arith, h)) ∙ ap (set (begun s (suc x) y k row) k) (next s x y k))
 
-pub all-done : (s : List ℕ) (x y : ℕ) (row : List ℤ) → begun s x y (length row) row ≡ levelsAlong s x y (length row)
+all-done : (s : List ℕ) (x y : ℕ) (row : List ℤ) → begun s x y (length row) row ≡ levelsAlong s x y (length row)
 unfolding begun
 all-done s x y row = rw (drop-length row) (append-nil (levelsAlong s x y (length row)))
 

@@ -90,11 +90,15 @@ EachPair P [] (y ∷ ys) = ⊥
 EachPair P (x ∷ xs) [] = ⊥
 EachPair P (x ∷ xs) (y ∷ ys) = P x y × EachPair P xs ys
 
+-- the answer is no refusal, and each of its values is so near to the exact one
+abbrev pub HalfUnitsFrom : Positive → Answer → List ℚ → Type 0
+HalfUnitsFrom d r xs = (outcome r .number ≡ 0) × EachPair (HalfUnitFrom d) (outcome r .values) xs
+
 -- at every pixel of the mesh of an accepted sheet a reading is not refused, and each value that it returns, times the kind's divisor, is a whole number within
 -- half a unit of the exact value of the cubic on the pixel's cell and piece
 pub record HalfUnits : Type 0 where
   pub returned : (s : List ℕ) (x y kind : ℕ) → Accepted s → Inside s x y → kind ≤ 2 → (r : Answer) → outcome r ≡ read s x y kind →
-      (outcome r .number ≡ 0) × EachPair (HalfUnitFrom (divisor kind)) (outcome r .values) (exact s x y kind)
+      HalfUnitsFrom (divisor kind) r (exact s x y kind)
   -- and each level of a run that is not refused lies within half a unit of the height of that cubic
   pub runs : (s : List ℕ) (x y : ℕ) (row : List ℤ) → runRefusal s x y (length row) ≡ 0 → (k : ℕ) → k < length row →
       whole (getD (filled s x y row) k (pos 0)) -ℚ jetAt s (place s (x + k) y) .height withinℚ half

@@ -3,19 +3,20 @@ use denote.Ref.{now}
 use mathlib.Core.Path.{_∙_, ap}
 use borrow.Author.Needs.{needs}
 use lib.ListN.{length, take}
-use Rattle.sheet.proofs.Chains.{HasRun, run-held}
-use Rattle.filling.proofs.Gathered.{on-mesh, run-short, first-places}
+use Rattle.sheet.specs.WellFormed.{OnMesh}
+use Rattle.sheet.proofs.Chains.{run-held}
+use Rattle.filling.proofs.Gathered.{run-short, first-places}
 use Rattle.filling.proofs.gather.Statement.{statement}
 use Rattle.filling.proofs.gather.Tie as tie
 
-held : (s : tie.Start) → HasRun (now (s .args .sheet)) (s .args .x) (s .args .y) (length (now (s .args .levels)))
+held : (s : tie.Start) → OnMesh (now (s .args .sheet)) (s .args .x) (s .args .y) (length (now (s .args .levels)))
 held s = run-held _ _ _ _ (s .pre)
 
 run-requires : tie.Need-run-requires
-run-requires c κs = let h = held (c .before .before) in (on-mesh h, run-short h)
+run-requires c κs = let h = held (c .before .before) in (h, run-short _ _ _ _ h)
 
 copy-requires : tie.Need-copy-requires
-copy-requires c κs = let short = run-short (held (c .before .before .before .before .before .before)) in search needs
+copy-requires c κs = let short = run-short _ _ _ _ (held (c .before .before .before .before .before .before)) in search needs
 
 returns : tie.Need-returns
 returns c = let k = c .before in let r = k .before .before .before .before in let s = r .before .before .before in

@@ -12,7 +12,7 @@ use Rattle.levels.proofs.print_row.Tie as tie
 -- the text lies within the buffer
 within : (c : tie.After-row-text) → c .row-text .result ≤ length (c .row-text .last .1 .1 .0)
 within c = let p = c .before .before .before .before .pre in
-    omega (arith, c .row-text .ensures .0, c .row-text .kept .1 .1 .0, row-fits _ _ (p .0) (p .1) (p .2), p .3)
+    omega (arith, c .row-text .ensures .0, c .row-text .kept .1 .1 .0, row-fits _ _ (p .0), p .1)
 
 pub print-row-spec : {M : Type 1} → statement M
 print-row-spec =

@@ -6,7 +6,7 @@ use native.Mathlib.Omega.{arith}
 use borrow.Author.Needs.{needs}
 use lib.ListN.{length}
 use Rattle.listing.specs.Listing.{firstY, lastY}
-use Rattle.surface.proofs.Cells.{last-y-near}
+use Rattle.surface.proofs.Cells.{sound, last-y-near}
 use Rattle.levels.proofs.print_rows.Statement.{statement}
 use Rattle.levels.proofs.print_rows.Tie as tie
 
@@ -17,7 +17,7 @@ abbrev μ-loop : tie.MeasureT-loop
 μ-loop sheet out₀ last y₀ out y = last + 1 - y
 
 loop-holds : tie.Need-loop-holds Inv-loop μ-loop
-loop-holds c = (omega (arith, c .first-row .ensures), refl)
+loop-holds c = (omega (arith, c .line-y .ensures), refl)
 
 -- the row is one of the sheet's
 on : (c : tie.In-loop Inv-loop μ-loop) → let s = c .before .before .before .before .before .before in c .before .loop .y ≤ lastY (now (s .args .sheet))
@@ -26,7 +26,7 @@ on c = subst (λ n. c .before .loop .y ≤ n) (c .before .before .before .last-r
 print-row-requires : tie.Need-print-row-requires Inv-loop μ-loop
 print-row-requires c κs =
     let d = c .before in let i = d .before .loop .inv in let p = d .before .before .before .before .before .before .pre in
-    (p .0, i .0, on d, omega (arith, i .1, p .1))
+    (record { accepted = p .0; top = i .0; bottom = on d }, omega (arith, i .1, p .1))
 
 add-y : tie.Need-add-y Inv-loop μ-loop
 add-y c = let d = c .before .before .before .before .before in record { fits = omega (arith, on d, last-y-near _ (d .before .before .before .before .before .before .pre .0)) }
@@ -41,7 +41,7 @@ print-rows-spec =
     Inv-loop
     μ-loop
     (λ c κs. search needs)
-    (λ c κs. search needs)
+    (λ c κs. let a = c .before .before .before .pre .0 in (a, omega (arith, sound _ a .fewRows)))
     loop-holds
     print-row-requires
     (λ c. search needs)

@@ -5,7 +5,7 @@ use mathlib.Core.Path.{_∙_, subst}
 use native.Mathlib.Nat.{zero-add}
 use native.Mathlib.Omega.{arith}
 use borrow.Author.Needs.{needs}
-use Rattle.surface.proofs.Cells.{last-x-near}
+use Rattle.surface.proofs.Cells.{sound, last-x-near}
 use Rattle.listing.specs.Listing.{lastX}
 use Rattle.listing.proofs.Begun.{Begun, on-row, starts, length-kept, line-room, goes-on, done}
 use Rattle.listing.proofs.row_text.Statement.{statement}
@@ -19,7 +19,7 @@ abbrev μ-loop : tie.MeasureT-loop
 
 loop-holds : tie.Need-loop-holds Inv-loop μ-loop
 loop-holds c = let s = c .before .before .before .before in let p = s .pre in
-    rw (c .first-column .ensures) (starts _ _ (p .0) (p .1) (p .2) _ (p .3))
+    rw (c .line-x .ensures) (starts _ _ (p .0) _ (p .1))
 
 -- the pixel is one of the row
 on : (c : tie.In-loop Inv-loop μ-loop) → let s = c .before .before .before .before .before .before in c .before .loop .x ≤ lastX (now (s .args .sheet))
@@ -28,24 +28,24 @@ on c = subst (λ n. c .before .loop .x ≤ n) (c .before .before .before .last-c
 pixel-line-requires : tie.Need-pixel-line-requires Inv-loop μ-loop
 pixel-line-requires c κs =
     let d = c .before in let b = d .before .loop .inv in let p = d .before .before .before .before .before .before .pre in
-    (p .0, on-row _ _ (p .0) (p .1) (p .2) _ (b .from) (on d), line-room _ _ (p .0) (p .1) (p .2) _ (p .3) b (on d))
+    (p .0 .accepted, on-row _ _ (p .0) _ (b .from) (on d), line-room _ _ (p .0) _ (p .1) b (on d))
 
 add-x : tie.Need-add-x Inv-loop μ-loop
 add-x c = let d = c .before .before .before .before in
-    record { fits = omega (arith, on d, last-x-near _ (d .before .before .before .before .before .before .pre .0)) }
+    record { fits = omega (arith, on d, last-x-near _ (d .before .before .before .before .before .before .pre .0 .accepted)) }
 
 loop-again : tie.Need-loop-again Inv-loop μ-loop
 loop-again c =
     let d = c .before .before .before .before in let b = d .before .loop .inv in let p = d .before .before .before .before .before .before .pre in
-    goes-on _ _ (p .0) (p .1) (p .2) _ (p .3) b (on d) (c .before .before .pixel-line .ensures)
+    goes-on _ _ (p .0) _ (p .1) b (on d) (c .before .before .pixel-line .ensures)
 
 same-length : tie.Need-same-length Inv-loop μ-loop
-same-length c = let p = c .before .before .before .before .before .before .pre in length-kept _ _ (p .0) (p .1) (p .2) _ (p .3) (c .before .loop .inv)
+same-length c = let p = c .before .before .before .before .before .before .pre in length-kept _ _ (p .0) _ (p .1) (c .before .loop .inv)
 
 returns : tie.Need-returns Inv-loop μ-loop
 returns c =
     let b = c .before .loop .inv in let s = c .before .before .before .before .before .before in let p = s .pre in
-    let w = done _ _ (p .0) (p .1) (p .2) _ (p .3) b (subst (λ n. n < c .before .loop .x) (c .before .before .before .last-column .ensures) (c .loop-test .left)) in
+    let w = done _ _ (p .0) _ (p .1) b (subst (λ n. n < c .before .loop .x) (c .before .before .before .last-column .ensures) (c .loop-test .left)) in
     (w .0 ∙ zero-add _, w .1)
 
 pub row-text-spec : {M : Type 1} → statement M
@@ -55,7 +55,7 @@ row-text-spec =
     Inv-loop
     μ-loop
     (λ c κs. search needs)
-    (λ c κs. search needs)
+    (λ c κs. let a = c .before .before .before .pre .0 .accepted in (a, omega (arith, sound _ a .fewColumns)))
     loop-holds
     pixel-line-requires
     add-x

@@ -16,9 +16,9 @@ use Rattle.evaluation.specs.declared.Pixel.{Pixel}
 use Rattle.sheet.specs.Format.{lineX}
 use Rattle.surface.specs.Place.{HasCell}
 use Rattle.surface.proofs.Cells.{sound, x-rising}
-use Rattle.spans.specs.Needs.{InCell}
+use Rattle.spans.specs.Needs.{FitsCell}
 use Rattle.surface.specs.Surface.{nodesOf}
-use Rattle.spans.specs.Span.{toRight, levelIn, laid}
+use Rattle.spans.specs.Span.{toRight, cellLevel, laid}
 use Rattle.spans.proofs.Laid.{laid-same}
 use Rattle.runs.specs.Strips.{doneIn, OnStrip}
 use Rattle.runs.proofs.Columns.{run-near, strip-cell, column-starts, column-ends, Ends, ends}
@@ -30,19 +30,19 @@ use Rattle.runs.proofs.fill_column.Tie as tie
 
 module _ (s : tie.Start) where
   abbrev on : OnStrip (now (s .args .sheet)) (s .args .strip) (s .args .x) (s .args .count)
-  on = s .pre .0
+  on = s .pre .0 .on
 
   has : HasCell (now (s .args .sheet)) (s .args .column) (s .args .strip .row)
-  has = strip-cell _ _ _ _ on _ (s .pre .1) _ (s .pre .2)
+  has = strip-cell (s .pre .0)
 
   starts : lineX (now (s .args .sheet)) (s .args .column) ≤ s .args .x + s .args .done
-  starts = column-starts _ _ _ _ on _ (s .pre .1) _ (s .pre .2)
+  starts = column-starts (s .pre .0)
 
-  ended : Ends _ _ _ _ on _ (s .pre .1) (s .args .column) (s .pre .2) (doneIn (now (s .args .sheet)) (s .args .x) (s .args .column) (s .args .count))
-  ended = ends _ _ _ _ on _ (s .pre .1) _ (s .pre .2)
+  ended : Ends (s .pre .0) (doneIn (now (s .args .sheet)) (s .args .x) (s .args .column) (s .args .count))
+  ended = ends (s .pre .0)
 
-  fit : InCell (nextPixel _ _ _ _ on _ (s .pre .1) (s .args .column) (s .pre .2)) (doneIn (now (s .args .sheet)) (s .args .x) (s .args .column) (s .args .count) - s .args .done)
-  fit = pixels-fit _ _ _ _ on _ (s .pre .1) _ (s .pre .2)
+  fit : FitsCell (nextPixel (s .pre .0)) (doneIn (now (s .args .sheet)) (s .args .x) (s .args .column) (s .args .count) - s .args .done)
+  fit = pixels-fit (s .pre .0)
 
 -- the column's two lines, and the width between them
 module _ (c : tie.After-line-x2) where
@@ -69,15 +69,14 @@ sub-width c = let s = c .before .before .before in
     let rises = x-rising _ (on s .accepted) .rises (s .args .column) (has s .column) in omega (arith, right c, c .before .line-x .ensures, rises)
 
 done-in-requires : tie.Need-done-in-requires
-done-in-requires c κs = let s = c .before .before .before in let to = column-ends _ _ _ _ (on s) _ (s .pre .1) _ (s .pre .2) in
-    (on s .accepted, has s .column, omega arith)
+done-in-requires c κs = let s = c .before .before .before in (on s .accepted, has s .column, right c, omega (arith, right c, column-ends (s .pre .0)))
 
 corner-numbers-requires : tie.Need-corner-numbers-requires
 corner-numbers-requires c κs = let l = c .before in let s = l .before .before .before in
     (on s .accepted, has s, rw (width l) (fit s .inside .width), fit s .inside .height)
 
-sub-t15 : tie.Need-sub-t15
-sub-t15 c = let l = c .before .before .before in rw (l .line-x .ensures) (starts (l .before .before))
+sub-t16 : tie.Need-sub-t16
+sub-t16 c = let l = c .before .before .before in rw (l .line-x .ensures) (starts (l .before .before))
 
 sub-fill-cell : tie.Need-sub-fill-cell
 sub-fill-cell c = let d = c .before .before in rw (d .done-in .ensures) (le-of-lt (ended (d .before .before .before .before) .further))
@@ -92,7 +91,7 @@ module _ (c : tie.After-fill-cell-arg) where
   abbrev pixelOf : ℕ → ℕ → Pixel
   pixelOf left w = let a = s l .args in record { a = a .x + a .done - left; b = a .strip .offset; width = w; height = a .strip .height }
 
-  pixel-is : pixelOf (l .before .line-x .result) (l .line-x2 .result - l .before .line-x .result) ≡ nextPixel _ _ _ _ (on (s l)) _ (s l .pre .1) (s l .args .column) (s l .pre .2)
+  pixel-is : pixelOf (l .before .line-x .result) (l .line-x2 .result - l .before .line-x .result) ≡ nextPixel (s l .pre .0)
   pixel-is = λ j. pixelOf (l .before .line-x .ensures j) (width l j)
 
   -- the corner numbers of its cell, the width given
@@ -104,17 +103,17 @@ module _ (c : tie.After-fill-cell-arg) where
 
 fill-cell-requires : tie.Need-fill-cell-requires
 fill-cell-requires c κs = let s = c .before .before .before .before .before .before in let e = c .before .before .done-in .ensures in (
-  subst⁻¹ (AllWithin largest) (held _ (corner c)) (column-within _ _ _ _ (on s) _ (s .pre .1) _ (s .pre .2)),
-  rw e (subst⁻¹ (λ p. InCell p (doneIn (now (s .args .sheet)) (s .args .x) (s .args .column) (s .args .count) - s .args .done)) (pixel-is c) (fit s)),
-  omega (arith, e, ended s .further, ended s .most, s .pre .3),
+  subst⁻¹ (AllWithin largest) (held _ (corner c)) (column-within (s .pre .0)),
+  rw e (subst⁻¹ (λ p. FitsCell p (doneIn (now (s .args .sheet)) (s .args .x) (s .args .column) (s .args .count) - s .args .done)) (pixel-is c) (fit s)),
+  omega (arith, e, ended s .further, ended s .most, s .pre .1),
 )
 
 returns : tie.Need-returns
 returns c = let f = c .before in let a = f .before in let d = a .before .before in let s = d .before .before .before .before in (
   d .done-in .ensures,
   f .fill-cell .ensures
-      ∙ (λ j. laid (λ k. levelIn (corners (a .before .corner-numbers .result)) (toRight (pixel-is a j) k)) (s .args .done) (d .done-in .result - s .args .done) (now (s .args .row)))
-      ∙ laid-same _ _ _ _ _ (λ k l. column-levels _ _ _ _ (on s) _ (s .pre .1) _ (s .pre .2) (corner a) k (omega (arith, l, d .done-in .ensures))),
+      ∙ (λ j. laid (λ k. cellLevel (corners (a .before .corner-numbers .result)) (toRight (pixel-is a j) k)) (s .args .done) (d .done-in .result - s .args .done) (now (s .args .row)))
+      ∙ laid-same _ _ _ _ _ (λ k l. column-levels (s .pre .0) (corner a) k (omega (arith, l, d .done-in .ensures))),
 )
 
 pub fill-column-spec : {M : Type 1} → statement M
@@ -129,8 +128,8 @@ fill-column-spec =
     sub-width
     done-in-requires
     corner-numbers-requires
-    (λ c. let s = c .before .before .before .before .before in let near = run-near _ _ _ _ (on s) _ (s .pre .1) _ (s .pre .2) in search needs)
-    sub-t15
+    (λ c. let s = c .before .before .before .before .before in let near = run-near (s .pre .0) in search needs)
+    sub-t16
     sub-fill-cell
     fill-cell-requires
     (λ c. search needs)

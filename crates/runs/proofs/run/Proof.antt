@@ -4,11 +4,12 @@ use Prim.Native.Nat.{_+_, _-_, _<_}
 use mathlib.Core.Path.{_≡_, _∙_, ap, subst⁻¹}
 use native.Mathlib.Omega.{arith}
 use borrow.Author.Needs.{needs}
+use Rattle.sheet.specs.WellFormed.{OnMesh}
 use Rattle.surface.specs.Place.{columnAt, place}
 use Rattle.places.specs.Found.{holding}
 use Rattle.places.specs.declared.Place.{Place}
 use Rattle.spans.specs.Span.{laid}
-use Rattle.runs.specs.Strips.{stripAt, levelOn, OnMesh, OnStrip}
+use Rattle.runs.specs.Strips.{stripAt, stripLevel, OnStrip}
 use Rattle.runs.specs.declared.Strip.{Strip}
 use Rattle.runs.proofs.Underway.{in-strip, Underway, begins, same-length, column-near, further, goes-on, finishes}
 use Rattle.runs.proofs.run.Statement.{statement}
@@ -46,9 +47,11 @@ underway l = l .before .loop .inv (s (l .before .before) .pre .0)
 
 fill-column-requires : tie.Need-fill-column-requires Inv-loop μ-loop
 fill-column-requires c κs = let l = c .before in let f = l .before .before in let a = s f .args in let p = s f .pre in (
-  subst⁻¹ (λ (t : Strip). OnStrip (now (a .sheet)) t (a .x) (a .count)) (strip-is f) (in-strip _ _ _ _ (p .0)),
-  l .loop-test .taken,
-  underway l .here (l .loop-test .taken),
+  record {
+    on = subst⁻¹ (λ (t : Strip). OnStrip (now (a .sheet)) t (a .x) (a .count)) (strip-is f) (in-strip _ _ _ _ (p .0));
+    more = l .loop-test .taken;
+    here = underway l .here (l .loop-test .taken);
+  },
   rw (same-length _ _ _ _ _ _ (underway l)) (p .1),
 )
 
@@ -67,9 +70,9 @@ module _ (c : tie.After-row Inv-loop μ-loop) where
   goes-further = further _ _ _ _ _ _ (underway l) (l .loop-test .taken) (c .before .fill-column .ensures .0)
 
   -- what is laid is of the run's strip
-  laid-there : c .before .fill-column .last .1 .1 .1 .1 .0 ≡ laid (λ k. levelOn (now (s f .args .sheet)) (stripAt (now (s f .args .sheet)) (s f .args .y)) (s f .args .x + (l .before .loop .done + k))) (l .before .loop .done) (c .before .fill-column .result - l .before .loop .done) (l .before .loop .row)
+  laid-there : c .before .fill-column .last .1 .1 .1 .1 .0 ≡ laid (λ k. stripLevel (now (s f .args .sheet)) (stripAt (now (s f .args .sheet)) (s f .args .y)) (s f .args .x + (l .before .loop .done + k))) (l .before .loop .done) (c .before .fill-column .result - l .before .loop .done) (l .before .loop .row)
   laid-there = c .before .fill-column .ensures .1
-      ∙ ap (λ (t : Strip). laid (λ k. levelOn (now (s f .args .sheet)) t (s f .args .x + (l .before .loop .done + k))) (l .before .loop .done) (c .before .fill-column .result - l .before .loop .done) (l .before .loop .row)) (strip-is f)
+      ∙ ap (λ (t : Strip). laid (λ k. stripLevel (now (s f .args .sheet)) t (s f .args .x + (l .before .loop .done + k))) (l .before .loop .done) (c .before .fill-column .result - l .before .loop .done) (l .before .loop .row)) (strip-is f)
 
 loop-less : tie.Need-loop-less Inv-loop μ-loop
 loop-less c = omega (arith, goes-further c, l c .loop-test .taken)

@@ -9,8 +9,8 @@ use lib.IntN.{ℤ}
 use lib.ListN.{length}
 use Rattle.corners.specs.Held.{corners}
 use Rattle.evaluation.specs.declared.Pixel.{Pixel}
-use Rattle.spans.specs.Span.{toRight, levelIn, laid}
-use Rattle.spans.specs.Needs.{InCell}
+use Rattle.spans.specs.Span.{toRight, cellLevel, laid}
+use Rattle.spans.specs.Needs.{FitsCell}
 use Rattle.spans.proofs.InRow.{inside-right}
 use Rattle.spans.proofs.Laid.{laid-length, laid-join, laid-none, laid-all}
 use Rattle.spans.proofs.Laws.{span-laws}
@@ -19,7 +19,7 @@ use Rattle.spans.proofs.fill_cell.Tie as tie
 
 -- the levels at a pixel and those to its right
 abbrev levels : List (List ℤ) → Pixel → ℕ → ℤ
-levels n p k = levelIn (corners n) (toRight p k)
+levels n p k = cellLevel (corners n) (toRight p k)
 
 abbrev Inv-loop : tie.InvT-loop
 Inv-loop row₀ at count n first done₀ row done = (done ≤ count) × (row ≡ laid (levels n first) at done row₀)
@@ -32,7 +32,7 @@ kept : (c : tie.At-loop Inv-loop μ-loop) → length (c .loop .row) ≡ length (
 kept c = ap length (c .loop .inv .1) ∙ laid-length _ _ _ _
 
 -- what is left of the cell's pixels
-rest : (c : tie.In-loop Inv-loop μ-loop) → let a = c .before .before .args in InCell (toRight (a .first) (c .before .loop .done)) (a .count - c .before .loop .done)
+rest : (c : tie.In-loop Inv-loop μ-loop) → let a = c .before .before .args in FitsCell (toRight (a .first) (c .before .loop .done)) (a .count - c .before .loop .done)
 rest c = let h = c .before .before .pre .1 in record { inside = inside-right (c .before .before .args .first) h (c .loop-test .taken); fits = omega (arith, h .fits, c .loop-test .taken) }
 
 add-done : tie.Need-add-done Inv-loop μ-loop
@@ -51,7 +51,7 @@ span c = let t = c .before .before .before in omega (arith, c .fill-span .ensure
 joined : (n : List (List ℤ)) (p : Pixel) (at done size : ℕ) (row₀ : List ℤ) {row next : List ℤ} → row ≡ laid (levels n p) at done row₀
     → next ≡ laid (levels n (toRight p done)) (at + done) size row → next ≡ laid (levels n p) at (done + size) row₀
 joined n p at done size row₀ e f =
-    f ∙ (λ t. laid (λ k. levelIn (corners n) (record { a = add-assoc (p .a) done k t; b = p .b; width = p .width; height = p .height })) (at + done) size (e t))
+    f ∙ (λ t. laid (λ k. cellLevel (corners n) (record { a = add-assoc (p .a) done k t; b = p .b; width = p .width; height = p .height })) (at + done) size (e t))
     ∙ sym (laid-join (levels n p) at done size row₀)
 
 loop-again : tie.Need-loop-again Inv-loop μ-loop

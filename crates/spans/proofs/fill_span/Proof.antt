@@ -13,32 +13,32 @@ use Rattle.turnings.proofs.Sizes.{piece-sized}
 use Rattle.pieces.specs.Parts as parts
 use Rattle.pieces.proofs.Names.{piece-back}
 use Rattle.rows.proofs.Denominators.{denominates}
-use Rattle.spans.specs.Span.{pieceOf, endOf}
+use Rattle.spans.specs.Span.{pixelPiece, endOf}
 use Rattle.spans.proofs.Cubics.{Worked, levels-are, levels-fit}
 use Rattle.spans.proofs.Laid.{laid-same}
 use Rattle.spans.proofs.Laws.{span-laws}
 use Rattle.spans.proofs.fill_span.Statement.{statement}
 use Rattle.spans.proofs.fill_span.Tie as tie
 
-piece-is : (c : tie.After-piece) → parts.pieceOf (c .piece .result) ≡ pieceOf (c .before .args .first)
+piece-is : (c : tie.After-piece) → parts.pieceOf (c .piece .result) ≡ pixelPiece (c .before .args .first)
 piece-is c = ap parts.pieceOf (c .piece .ensures) ∙ piece-back _
 
-end-is : (c : tie.After-span-end) → let p = c .before .before .args .first in c .span-end .result ≡ endOf (pieceOf p) p
+end-is : (c : tie.After-span-end) → let p = c .before .before .args .first in c .span-end .result ≡ endOf (pixelPiece p) p
 end-is c = c .span-end .ensures ∙ ap (λ q. endOf q (c .before .before .args .first)) (piece-is (c .before))
 
 sub-least : tie.Need-sub-least
 sub-least c = let s = c .before .before .before in omega (arith, end-is (c .before), span-laws .starts (s .args .first) (s .pre .1 .inside))
 
-size-is : (c : tie.After-least) → let s = c .before .before .before .before in let p = s .args .first in c .least .result ≡ min (s .args .count) (endOf (pieceOf p) p - p .a)
+size-is : (c : tie.After-least) → let s = c .before .before .before .before in let p = s .args .first in c .least .result ≡ min (s .args .count) (endOf (pixelPiece p) p - p .a)
 size-is c = let s = c .before .before .before .before in c .least .ensures ∙ ap (λ e. min (s .args .count) (e - s .args .first .a)) (end-is (c .before .before))
 
 coefficients-are : (c : tie.After-coefficients) → let a = c .before .before .before .before .before .args in
-    c .coefficients .result ≡ listed (sibson (corners (a .n)) (pieceOf (a .first)))
+    c .coefficients .result ≡ listed (sibson (corners (a .n)) (pixelPiece (a .first)))
 coefficients-are c = let f = c .before .before .before .before in c .coefficients .ensures ∙ ap (λ q. listed (sibson (corners (f .before .args .n)) q)) (piece-is f)
 
 along-row-requires : tie.Need-along-row-requires
 along-row-requires c κs = let s = c .before .before .before .before .before in let i = s .pre .1 .inside in
-    (piece-sized (corners (s .args .n)) (s .pre .0) (pieceOf (s .args .first)) (coefficients-are c), i .width, i .height, i .down)
+    (piece-sized (corners (s .args .n)) (s .pre .0) (pixelPiece (s .args .first)) (coefficients-are c), i .width, i .height, i .down)
 
 abbrev d : tie.After-denominator → Operand
 d c = let i = c .before .before .before .before .before .before .before .pre .1 .inside in returned w64 (c .denominator .ensures) (denominates (i .width) (i .height) .small) tt

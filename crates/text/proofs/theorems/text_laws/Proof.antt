@@ -8,7 +8,7 @@ use Rattle.text.proofs.theorems.text_laws.Tie as tie
 
 laws : TextLaws
 unfolding spelled natural decimal field line refusedLine
-laws = record { spells = natural-spells; none = refl; largest = refl; least = refl; pixel = refl; refusal = refl }
+laws = record { spells = natural-spells; negative = λ n h. (refl, natural-spells _ h); none = refl; minusSeven = refl; largest = refl; least = refl; pixel = refl; refusal = refl }
 
 pub text-laws-spec : {M : Type 1} → statement M
 text-laws-spec = tie.close (tie.spec (λ c. (refl, laws)))
