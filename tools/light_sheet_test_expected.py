@@ -10,7 +10,7 @@ import itertools
 import struct
 
 import sheets
-from sheets import axes, node_place, put, put_number, sheet_of, lines, DOME, SMALL
+from sheets import axes, extreme, node_place, put, put_number, sheet_of, lines, DOME, SMALL
 
 WIDE = sheet_of([200, 255, 256, 320, 321], [4000, 4064, 4090, 4096])
 EVERYTHING_WRONG = (4294967295, 4294967295, -2147483648, 4096, -4096)
@@ -127,7 +127,7 @@ def beside_lines(lines):
 def pixel_cases():
     """Every pixel of sheets that do not start at 0 and have cells of 1 and of 64 pixels, and those beside their outer lines with every kind; one has
     only the largest numbers."""
-    flat = sheet_of([7, 8, 72, 73], [300, 301, 306], lambda k: 4095 if k * k % 11 < 5 else -4095)
+    flat = sheet_of([7, 8, 72, 73], [300, 301, 306], extreme)
     tall = sheet_of([65, 66, 69], [4029, 4031, 4032, 4096])
     for name, sheet in (("flat", flat), ("tall", tall)):
         case(f"{name}_pixels", sheet, three_readings(sheets.all_pixels(sheet)))

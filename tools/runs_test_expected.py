@@ -10,10 +10,12 @@ import itertools
 import struct
 
 import sheets
-from sheets import axes, lines, sheet_of, DOME
+from sheets import axes, extreme, lines, sheet_of, DOME
 
 # what is read on other sheets is worked out as these files confirm
-assert len([*sheets.readings_files()]) == 9
+confirmed = [*sheets.readings_files()]
+if len(confirmed) != 9:
+    raise SystemExit(f"{len(confirmed)} files X.readings.txt, not 9")
 
 VECTORS = [(path.stem, path.read_bytes()) for path in sorted(sheets.VECTORS.glob("*.lvs"))]
 ACCEPTED = [(name, sheet) for name, sheet in VECTORS if sheets.refusal("check", sheet, ()) == 0]
@@ -72,10 +74,6 @@ def vector_cases():
         xs, _ = axes(sheet)
         case(f"{name}_rows", sheet, whole_rows(sheet, all_rows(sheet)))
         case(f"{name}_runs", sheet, every_run(sheet) if xs[-1] - xs[0] < 10 else between_meetings(sheet, all_rows(sheet)))
-
-
-def extreme(k):
-    return 4095 if k * k % 11 < 5 else -4095
 
 
 def with_gaps(gaps, start=0):

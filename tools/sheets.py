@@ -57,6 +57,11 @@ def sheet_of(xs, ys, number=lambda k: (k * 641 + 300) % 8191 - 4095):
     return header + struct.pack(f"<{len(xs) + len(ys)}H{count}h", *xs, *ys, *numbers)
 
 
+def extreme(k):
+    """For sheet_of: only the largest numbers, of both signs."""
+    return 4095 if k * k % 11 < 5 else -4095
+
+
 def lines(count, step=1, start=0):
     return [start + step * k for k in range(count)]
 

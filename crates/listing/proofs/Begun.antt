@@ -53,31 +53,30 @@ module _ (s : List ℕ) (y : ℕ) (row : OnRow s y) where
   unfolding rowText
   row-fits = omega (arith, until-fits (lastX s + 1) (omega arith), last-x-near s (row .accepted))
 
-  module _ (buffer : List ℕ) (room : rowRoom ≤ length buffer) where
-    pub starts : Begun s y buffer (firstX s) buffer 0
-    unfolding sequence
-    starts =
-        let none : firstX s - firstX s ≡ 0 = omega arith in
-        record { from = omega arith; to = omega (arith, x-in-order); written = rw none (refl, refl) }
+  pub starts : (buffer : List ℕ) → Begun s y buffer (firstX s) buffer 0
+  unfolding sequence
+  starts buffer =
+      let none : firstX s - firstX s ≡ 0 = omega arith in
+      record { from = omega arith; to = omega (arith, x-in-order); written = rw none (refl, refl) }
 
-    module _ {x : ℕ} {out : List ℕ} {end : ℕ} (begun : Begun s y buffer x out end) where
-      pub length-kept : length out ≡ length buffer
-      length-kept = ap length (begun .written .1) ∙ replaced-length buffer 0 (until s y x) (omega (arith, until-fits x (begun .to), last-x-near s (row .accepted)))
+  module _ (buffer : List ℕ) (room : rowRoom ≤ length buffer) {x : ℕ} {out : List ℕ} {end : ℕ} (begun : Begun s y buffer x out end) where
+    pub length-kept : length out ≡ length buffer
+    length-kept = ap length (begun .written .1) ∙ replaced-length buffer 0 (until s y x) (omega (arith, until-fits x (begun .to), last-x-near s (row .accepted)))
 
-      -- there is room for the line of pixel x
-      pub line-room : x ≤ lastX s → end + lineRoom ≤ length out
-      line-room h = omega (arith, begun .written .0, length-kept, until-fits x (begun .to), last-x-near s (row .accepted))
+    -- there is room for the line of pixel x
+    pub line-room : x ≤ lastX s → end + lineRoom ≤ length out
+    line-room h = omega (arith, begun .written .0, length-kept, until-fits x (begun .to), last-x-near s (row .accepted))
 
-      pub goes-on : x ≤ lastX s → {next : List ℕ} {after : ℕ} → Written out end (pixelLine s x y) next after → Begun s y buffer (x + 1) next after
-      goes-on h {next} {after} w =
-          let more = until-more s y x (begun .from) in
-          let fits = subst (λ b. 0 + length b ≤ length buffer) more (omega (arith, until-fits (x + 1) (omega arith), last-x-near s (row .accepted))) in
-          record {
-            from = omega (arith, begun .from);
-            to = omega arith;
-            written = subst⁻¹ (λ b. Written buffer 0 b next after) more (both-written buffer 0 (until s y x) (pixelLine s x y) fits (begun .written) w);
-          }
+    pub goes-on : x ≤ lastX s → {next : List ℕ} {after : ℕ} → Written out end (pixelLine s x y) next after → Begun s y buffer (x + 1) next after
+    goes-on h {next} {after} w =
+        let more = until-more s y x (begun .from) in
+        let fits = subst (λ b. 0 + length b ≤ length buffer) more (omega (arith, until-fits (x + 1) (omega arith), last-x-near s (row .accepted))) in
+        record {
+          from = omega (arith, begun .from);
+          to = omega arith;
+          written = subst⁻¹ (λ b. Written buffer 0 b next after) more (both-written buffer 0 (until s y x) (pixelLine s x y) fits (begun .written) w);
+        }
 
-      pub done : lastX s < x → Written buffer 0 (rowText s y) out end
-      unfolding rowText
-      done h = let last : x ≡ lastX s + 1 = omega (arith, begun .to) in rw (← last) (begun .written)
+pub done : {s : List ℕ} {x y : ℕ} {buffer out : List ℕ} {end : ℕ} → Begun s y buffer x out end → lastX s < x → Written buffer 0 (rowText s y) out end
+unfolding rowText
+done {s} {x} begun h = let last : x ≡ lastX s + 1 = omega (arith, begun .to) in rw (← last) (begun .written)

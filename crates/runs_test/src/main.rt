@@ -1,7 +1,7 @@
 // The call `fill_run` of a light sheet on the cases of standard input, one line each: the call as in tests/vectors/calls.txt, "->" and its number, and, where
-// it is not refused, the levels. A word follows for each thing that must not be: `sheet_altered`; `row_altered`, of a row that a refused call was lent;
-// `margin_altered`, of places beside the row; `unlike_read`, of a level that `read` does not give. The input and the expected output, which has none of these
-// words, are from tools/runs_test_expected.py.
+// it is not refused, the levels. A word follows for each thing that must not be: `row_altered`, of a row that a refused call was lent; `margin_altered`, of
+// places beside the row; `unlike_read`, of a level that `read` does not give. The input and the expected output, which has none of these words, are from
+// tools/runs_test_expected.py.
 // A case is three numbers of 16 bits (the length of its name, that of its sheet, how many calls), the name, the sheet, and 12 bytes for each call: x, y and
 // how many places the lent row has, numbers of 32 bits. Numbers have their low byte first.
 ghost use Prim.Native.Nat.{_≤_};
@@ -10,7 +10,6 @@ use answers::Answer;
 use answers::LevelReading;
 use cases::answer;
 use cases::call;
-use cases::copy;
 use cases::long;
 use cases::part;
 use cases::short;
@@ -47,29 +46,26 @@ fn case() -> bool {
     }
     let mut name = [0u8; 64];
     let mut sheet = [0u8; 26000];
-    let mut before = [0u8; 26000];
     let name_size = part(short(head[0], head[1]), &mut name);
     let sheet_size = part(short(head[2], head[3]), &mut sheet);
-    copy(&sheet[..sheet_size], &mut before);
     make_calls(
         &name[..name_size],
         &sheet[..sheet_size],
-        &before,
         short(head[4], head[5]),
     );
     true
 }
 
-fn make_calls(name: &[u8], sheet: &[u8], before: &[u8], calls: u32) {
+fn make_calls(name: &[u8], sheet: &[u8], calls: u32) {
     let mut k: u32 = 0;
     while k < calls {
-        make_call(name, sheet, before);
+        make_call(name, sheet);
         k += 1;
     }
 }
 
 // Reads a call and makes it.
-fn make_call(name: &[u8], sheet: &[u8], before: &[u8]) {
+fn make_call(name: &[u8], sheet: &[u8]) {
     let mut c = [0u8; 12];
     io::read_full(STDIN_FILENO, &mut c);
     let run = Run {
@@ -78,11 +74,11 @@ fn make_call(name: &[u8], sheet: &[u8], before: &[u8]) {
         size: long(c[8], c[9], c[10], c[11]),
     };
     let mut buffer = [0i32; 5128];
-    line(name, sheet, before, run, &mut buffer);
+    line(name, sheet, run, &mut buffer);
 }
 
 // A call's line. A row that the buffer does not hold between two margins is left out, and its line is then missing.
-fn line(name: &[u8], sheet: &[u8], before: &[u8], run: Run, buffer: &mut [i32]) {
+fn line(name: &[u8], sheet: &[u8], run: Run, buffer: &mut [i32]) {
     let end = MARGIN + run.size as usize;
     if end + MARGIN <= buffer.len() {
         call(b"fill_run ", name);
@@ -90,9 +86,6 @@ fn line(name: &[u8], sheet: &[u8], before: &[u8], run: Run, buffer: &mut [i32]) 
         field(run.y as i64);
         field(run.size as i64);
         fill_run(sheet, run.x, run.y, &mut buffer[0..end + MARGIN], end);
-        if !same(sheet, before) {
-            io::write_all(STDOUT_FILENO, b" sheet_altered");
-        }
         io::write_all(STDOUT_FILENO, b"\n");
     }
 }
@@ -181,16 +174,4 @@ fn reads(sheet: &[u8], x: u32, k: usize, y: u32, level: i32) -> bool {
         Answer::Bend(a, b, c) => false,
         Answer::Refused(number) => false,
     }
-}
-
-// Whether the sheet has the bytes that were copied from it.
-fn same(sheet: &[u8], before: &[u8]) -> bool {
-    let mut k: usize = 0;
-    while k < sheet.len() && k < before.len() {
-        if sheet[k] != before[k] {
-            return false;
-        }
-        k += 1;
-    }
-    true
 }

@@ -5,7 +5,7 @@ use mathlib.Core.List.{List, [], _∷_, _++_}
 use native.Mathlib.Decide.{decLt}
 use native.Mathlib.Nat.{pow-suc}
 use native.Mathlib.Omega.{arith}
-use lib.ListN.{length, getD, length-append, List·getD-append, List·getD-eq-default}
+use lib.ListN.{length, getD, length-append, List·getD-append}
 use lib.Seq.{getD-append-add}
 use borrow.Author.Tests.{lt-ltb, le-ltb}
 use Rattle.text.specs.Text.{digit, spelled, natural}
@@ -50,7 +50,7 @@ value-append n (x ∷ a) c = value-append (10 * n + (x - 48)) a c
 
 one-spells : (n : ℕ) → n < 10 → Spells n (digit n ∷ [])
 unfolding valueFrom
-one-spells n h = record { value = omega arith; digits = λ i l. at i l; first = λ l. omega arith; few = λ k l _. l }
+one-spells n h = record { value = omega arith; digits = λ i l. at i l; first = λ l. omega arith; some = omega arith; few = λ k l _. l }
   where
     at : (i : ℕ) → i < 1 → (48 ≤ getD (digit n ∷ []) i 0) × (getD (digit n ∷ []) i 0 ≤ 57)
     at zero l = (omega arith, omega arith)
@@ -66,14 +66,6 @@ module _ (n : ℕ) (a : List ℕ) (h : 10 ≤ n) (s : Spells (n / 10) a) where
             rw (← e, getD-append-add a (digit (n % 10) ∷ []) 0 0) (omega arith, omega arith)
       ]
 
-  -- there is a digit before the last
-  some : 0 < length a
-  some =
-      elim (decLt 0 (length a)) [
-        | yes k ↦ k
-        | no k ↦ absurd (omega (arith, s .first (omega arith), List·getD-eq-default a 0 {n = 0} (omega arith)))
-      ]
-
   more-few : (k : ℕ) → 1 ≤ k → n < 10 ^ k → length (a ++ digit (n % 10) ∷ []) ≤ k
   more-few zero u l = absurd (omega arith)
   more-few (suc zero) u l = absurd (omega arith)
@@ -83,7 +75,8 @@ module _ (n : ℕ) (a : List ℕ) (h : 10 ≤ n) (s : Spells (n / 10) a) where
   more-spells = record {
     value = value-append 0 a (digit (n % 10)) ∙ rw (s .value) (omega arith);
     digits = more-digits;
-    first = λ l. rw (List·getD-append a (digit (n % 10) ∷ []) 0 0 some) (s .first (omega arith));
+    first = λ l. rw (List·getD-append a (digit (n % 10) ∷ []) 0 0 (s .some)) (s .first (omega arith));
+    some = rw (length-append a (digit (n % 10) ∷ [])) (omega arith);
     few = more-few;
   }
 

@@ -19,7 +19,8 @@ pub record Spells (n : ℕ) (cs : List ℕ) : Type 0 where
   pub digits : (i : ℕ) → i < length cs → (48 ≤ getD cs i 0) × (getD cs i 0 ≤ 57)
   -- the first is not the digit 0, but of n = 0
   pub first : 0 < n → 48 < getD cs 0 0
-  -- where n is below 10ᵏ, there are at most k
+  -- there is one at least; where n is below 10ᵏ, there are at most k
+  pub some : 1 ≤ length cs
   pub few : (k : ℕ) → 1 ≤ k → n < 10 ^ k → length cs ≤ k
 
 pub record TextLaws : Type 0 where

@@ -61,7 +61,7 @@ fn field(out: &mut [u8], at: usize, z: i64, behind: u8) -> usize
 }
 
 // A signed number. −z itself would not fit for the least one.
-pub fn decimal(out: &mut [u8], at: usize, z: i64) -> usize
+fn decimal(out: &mut [u8], at: usize, z: i64) -> usize
     requires { ⌜ at + length (decimal z) ≤ length (now out) ⌝ }
     ensures end { λ r. ⌜ r ≡ at + length (decimal z) ⌝ }
     ensures text { λ r. ⌜ now (out .exit) ≡ replaced (now (out .entry)) at (decimal z) ⌝ }
@@ -75,7 +75,7 @@ pub fn decimal(out: &mut [u8], at: usize, z: i64) -> usize
 }
 
 // A number without a sign: what stands before its last digit, and that digit.
-pub fn natural(out: &mut [u8], at: usize, n: u64) -> usize
+fn natural(out: &mut [u8], at: usize, n: u64) -> usize
     requires { ⌜ at + length (natural n) ≤ length (now out) ⌝ }
     ensures end { λ r. ⌜ r ≡ at + length (natural n) ⌝ }
     ensures text { λ r. ⌜ now (out .exit) ≡ replaced (now (out .entry)) at (natural n) ⌝ }

@@ -18,8 +18,7 @@ abbrev μ-loop : tie.MeasureT-loop
 μ-loop sheet y out₀ last x₀ end₀ out x end = last + 1 - x
 
 loop-holds : tie.Need-loop-holds Inv-loop μ-loop
-loop-holds c = let s = c .before .before .before .before in let p = s .pre in
-    rw (c .line-x .ensures) (starts _ _ (p .0) _ (p .1))
+loop-holds c = rw (c .line-x .ensures) (starts _ _ (c .before .before .before .before .pre .0) _)
 
 -- the pixel is one of the row
 on : (c : tie.In-loop Inv-loop μ-loop) → let s = c .before .before .before .before .before .before in c .before .loop .x ≤ lastX (now (s .args .sheet))
@@ -44,8 +43,7 @@ same-length c = let p = c .before .before .before .before .before .before .pre i
 
 returns : tie.Need-returns Inv-loop μ-loop
 returns c =
-    let b = c .before .loop .inv in let s = c .before .before .before .before .before .before in let p = s .pre in
-    let w = done _ _ (p .0) _ (p .1) b (subst (λ n. n < c .before .loop .x) (c .before .before .before .last-column .ensures) (c .loop-test .left)) in
+    let w = done (c .before .loop .inv) (subst (λ n. n < c .before .loop .x) (c .before .before .before .last-column .ensures) (c .loop-test .left)) in
     (w .0 ∙ zero-add _, w .1)
 
 pub row-text-spec : {M : Type 1} → statement M

@@ -5,10 +5,10 @@ use Rattle.runs_test.proofs.make_calls.Statement.{statement}
 use Rattle.runs_test.proofs.make_calls.Tie as tie
 
 abbrev Inv-loop : tie.InvT-loop
-Inv-loop name sheet before calls k₀ k = k ≤ calls
+Inv-loop name sheet calls k₀ k = k ≤ calls
 
 abbrev μ-loop : tie.MeasureT-loop
-μ-loop name sheet before calls k₀ k = calls - k
+μ-loop name sheet calls k₀ k = calls - k
 
 pub make-calls-spec : {M : Type 1} → statement M
 make-calls-spec =

@@ -29,15 +29,12 @@ abbrev natural-below : ℕ → In 1 natural-kinds.ps
 natural-below t = and 1 natural-kinds.ps (falls 1 natural-kinds.ps _<_ μ-natural t) natural.Pre
 
 module _ (t : ℕ) where
-  -- the branches: one digit, several, and these after the call
+  -- the branches: one digit, several
   abbrev One : Type 0
   One = natural-lts.Then1 (natural-below t, natural.Post) (natural-at t) natural.Post
 
   abbrev More : Type 0
   More = natural-lts.Else1 (natural-below t, natural.Post) (natural-at t) natural.Post
-
-  abbrev Called : Type 0
-  Called = natural-lts.After-slice-known2 (natural-below t, natural.Post) (natural-at t) natural.Post
 
   one : (c : One) → let a = c .before .before .args in Text.natural (a .n) ≡ digit (a .n) ∷ []
   one c = natural-one _ (c .if1 .taken)

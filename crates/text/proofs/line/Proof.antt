@@ -72,6 +72,10 @@ module _ (s : tie.Start) where
   room-x : Room to-x
   room-x = without to-x _ room-y
 
+  -- the fields b are written to t, and end before index e
+  abbrev Begun : List ℕ → List ℕ → ℕ → Type 0
+  Begun b t e = Written (now (s .args .out)) (s .args .at) b t e
+
 -- the start of the function, from behind each field
 abbrev start : tie.After-field → tie.Start
 start c = c .before .before .before
@@ -88,24 +92,20 @@ start4 c = start3 (c .before .before .before .before)
 abbrev start5 : tie.After-field5 → tie.Start
 start5 c = start4 (c .before .before .before .before)
 
--- the fields b are written to t, and end before index e
-abbrev Begun : (s : tie.Start) → (tie.Start → List ℕ) → List ℕ → ℕ → Type 0
-Begun s b t e = Written (now (s .args .out)) (s .args .at) (b s) t e
-
-begun-y : (c : tie.After-field2) → Begun (start2 c) to-y (c .field2 .last .0) (c .field2 .result)
+begun-y : (c : tie.After-field2) → Begun (start2 c) (to-y (start2 c)) (c .field2 .last .0) (c .field2 .result)
 begun-y c = let d = c .before .before .before .before in both-written _ _ _ _ (room-y (start d)) (d .field .ensures) (c .field2 .ensures)
 
-begun-level : (c : tie.After-field3) → Begun (start3 c) to-level (c .field3 .last .0) (c .field3 .result)
+begun-level : (c : tie.After-field3) → Begun (start3 c) (to-level (start3 c)) (c .field3 .last .0) (c .field3 .result)
 begun-level c = let d = c .before .before .before .before in both-written _ _ _ _ (room-level (start2 d)) (begun-y d) (c .field3 .ensures)
 
-begun-tilt-x : (c : tie.After-field4) → Begun (start4 c) to-tilt-x (c .field4 .last .0) (c .field4 .result)
+begun-tilt-x : (c : tie.After-field4) → Begun (start4 c) (to-tilt-x (start4 c)) (c .field4 .last .0) (c .field4 .result)
 begun-tilt-x c = let d = c .before .before .before .before in both-written _ _ _ _ (room-tilt-x (start3 d)) (begun-level d) (c .field4 .ensures)
 
-begun-tilt-y : (c : tie.After-field5) → Begun (start5 c) to-tilt-y (c .field5 .last .0) (c .field5 .result)
+begun-tilt-y : (c : tie.After-field5) → Begun (start5 c) (to-tilt-y (start5 c)) (c .field5 .last .0) (c .field5 .result)
 begun-tilt-y c = let d = c .before .before .before .before in both-written _ _ _ _ (room-tilt-y (start4 d)) (begun-tilt-x d) (c .field5 .ensures)
 
 returns : tie.Need-returns
-returns c = let d = c .before .before in subst (λ b. Begun (start5 d) (λ _. b) (d .field5 .last .0) (d .field5 .result)) (line-is (start5 d)) (begun-tilt-y d)
+returns c = let d = c .before .before in subst (λ b. Begun (start5 d) b (d .field5 .last .0) (d .field5 .result)) (line-is (start5 d)) (begun-tilt-y d)
 
 pub line-spec : {M : Type 1} → statement M
 line-spec =
