@@ -70,8 +70,8 @@ pub record Gives (checks : List ℕ) (u : Input) (n : ℕ) : Type 0 where
 
 pub record DemandOne : Type 0 where
   -- "The memory a caller lends, sheet or row, comes back with only those places altered that the call is there to write, and after a refusal with none
-  -- altered." `set_node` is there to write the bytes of a node, `fill_run` all places of the row. The other calls, and `fill_run` its sheet, are lent by `&`
-  -- what none can alter
+  -- altered." `set_node` is there to write the bytes of a node, `fill_run` all places of the row. What is lent by `&`, to the other calls and as the sheet of
+  -- `fill_run`, none can alter
   pub sheetSize : {s t : List ℕ} {i j n : ℕ} {v : Node} → SetNode s i j v n t → length t ≡ length s
   pub beforeNode : {s t : List ℕ} {i j n : ℕ} {v : Node} → SetNode s i j v n t → (k : ℕ) → k < nodeOffset s i j → byteAt t k ≡ byteAt s k
   pub afterNode : {s t : List ℕ} {i j n : ℕ} {v : Node} → SetNode s i j v n t → (k : ℕ) → nodeOffset s i j + nodeSize ≤ k → byteAt t k ≡ byteAt s k
@@ -89,7 +89,7 @@ pub record DemandOne : Type 0 where
       Gives (1 ∷ 2 ∷ 3 ∷ 4 ∷ 5 ∷ 6 ∷ 7 ∷ 9 ∷ []) (atPixel s x y 0 kind) (outcome r .number)
   pub run : {s : List ℕ} {x y n : ℕ} {row row′ : List ℤ} → FillRun s x y row n row′ →
       Gives (1 ∷ 2 ∷ 3 ∷ 4 ∷ 5 ∷ 6 ∷ 7 ∷ 8 ∷ []) (atPixel s x y (length row) 0) n
-  -- a lookup hands back an empty part from the start exactly where its companion gives a refusal
+  -- a lookup that its companion says is refused hands back an empty part from the sheet's start; else the node's six bytes, where they lie
   pub emptyPart : {s r : RefT (List ℕ)} {i j n : ℕ} → NodeCall s i j r → NodeRefusal (now s) i j n → ¬ (n ≡ 0) → Part s r (span 0 0)
   pub nodePart : {s r : RefT (List ℕ)} {i j n : ℕ} → NodeCall s i j r → NodeRefusal (now s) i j n → n ≡ 0 → Part s r (span (nodeOffset (now s) i j) nodeSize)
   -- a reading that is refused gives its number and nothing else
@@ -157,7 +157,8 @@ pub record DemandThree : Type 0 where
   pub unique : (C : Cell) (S S′ : FourCubics) → Meets C S → Meets C S′ → (Equal S S′ ↔ SameCorners C S S′)
   -- linear: no square term is a straight line at all points of the edge
   pub linear : Linearity
-  -- "On every accepted sheet the set we read from in each cell is the one such set that has the nodes' numbers at the corners;"
+  -- "On every accepted sheet the set we read from in each cell is the one such set that has the nodes' numbers at the corners;" The
+  -- cell is as wide and high as its lines are apart
   pub widths : (s : List ℕ) → Accepted s → (i j : ℕ) → HasCell s i j → lineX s i + cellOf s i j .W .number ≡ lineX s (suc i)
   pub heights : (s : List ℕ) → Accepted s → (i j : ℕ) → HasCell s i j → lineY s j + cellOf s i j .H .number ≡ lineY s (suc j)
   pub meets : (s : List ℕ) → Accepted s → (i j : ℕ) → HasCell s i j → Meets (cellOf s i j) (setOf s i j)
@@ -177,9 +178,9 @@ pub record DemandThree : Type 0 where
       HalfUnitsFrom (positive 64 tt) r (pixelJet s x y .xSlope ∷ pixelJet s x y .ySlope ∷ [])
   pub bends : {s : List ℕ} {x y : ℕ} {r : Answer} → Accepted s → Inside s x y → Read s x y 2 r →
       HalfUnitsFrom (positive 4096 tt) r (pos 64 ·ℚ pixelBend s x y .xx ∷ pos 64 ·ℚ pixelBend s x y .xy ∷ pos 64 ·ℚ pixelBend s x y .yy ∷ [])
-  -- the pixel's cell and piece
-  pub places : PlaceLaws
   pub runs : {s : List ℕ} {x y : ℕ} {row row′ : List ℤ} → FillRun s x y row 0 row′ → (k : ℕ) → k < length row →
       whole (getD row′ k (pos 0)) -ℚ pixelJet s (x + k) y .height withinℚ half
   pub reached : {s : List ℕ} {x y n : ℕ} {row row′ : List ℤ} (k : ℕ) → Accepted s → Inside s x y → Inside s (x + k) y → length row ≡ suc k →
       FillRun s x y row n row′ → n ≡ 0
+  -- the pixel's cell and piece
+  pub places : PlaceLaws

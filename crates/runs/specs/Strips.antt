@@ -29,7 +29,7 @@ doneIn s x column count = cond (eqb (column + 2) (columns s)) count (min count (
 
 -- ---- what the code asks
 
--- an accepted sheet, a strip of its cells, and the columns from the first line to the last
+-- an accepted sheet, a strip of its cells, and count pixels from x on that lie between its first vertical line and its last
 pub record OnStrip (s : List ℕ) (t : Strip) (x count : ℕ) : Type 0 where
   pub accepted : Accepted s
   pub row : suc (t .row) < rows s
