@@ -1,7 +1,8 @@
 -- Where the spans of a row end: a piece that holds a pixel holds those to its right before its end, and no others. Assumes nothing.
-use Prim.Native.Nat.{ℕ, _+_, _*_, _≤_, _<_}
+use Prim.Native.Nat.{ℕ, suc, _+_, _*_, _≤_, _<_}
 use mathlib.Core.Path.{_≡_, sym, subst}
-use native.Mathlib.Nat.{mul-le-mul-right}
+use native.Mathlib.Decide.{decLe}
+use native.Mathlib.Nat.{suc-mul, mul-comm, mul-le-mul-right}
 use native.Mathlib.Omega.{arith}
 use Rattle.sibson.specs.Piece.{Piece, top, right, bottom, left}
 use Rattle.evaluation.specs.Pixels.{Inside}
@@ -31,6 +32,14 @@ module _ (p : Pixel) (high : 0 < p .height) where
   up-to-end bottom l h e = (below-ceiling high .0 e, omega (arith, mul-le-mul-right (p .height) l))
   up-to-end left l h e = omega (arith, below-ceiling high .0 e)
 
+  -- the products tell an end beyond the cell's
+  beyond-cell : (k : Piece) → p .b ≤ p .height → suc (p .width) < endOf k p → ⊥
+  unfolding endOf
+  beyond-cell top l e = omega (arith, below-floor high .0 e, suc-mul (p .width) (p .height))
+  beyond-cell right l e = omega arith
+  beyond-cell bottom l e = omega (arith, below-ceiling high .0 e, suc-mul (p .width) (p .height), mul-le-mul-right (p .width) l, mul-comm (p .width) (p .height))
+  beyond-cell left l e = omega (arith, below-ceiling high .0 e, suc-mul (p .width) (p .height))
+
 -- the piece k holds the pixel
 held-by : (p : Pixel) → Inside p → {k : Piece} → pixelPiece p ≡ k → Holds k (p .a * p .height) (p .b * p .width) (p .width * p .height)
 held-by p i e = subst (λ k. Holds k (p .a * p .height) (p .b * p .width) (p .width * p .height)) e (piece-holds p i)
@@ -38,6 +47,10 @@ held-by p i e = subst (λ k. Holds k (p .a * p .height) (p .b * p .width) (p .wi
 pub span-laws : SpanLaws
 span-laws = record {
   starts = λ p i. before-end p (i .height .least) (pixelPiece p) (p .a) (i .across) (piece-holds p i);
+  within = λ p i. elim (decLe (endOf (pixelPiece p) p) (suc (p .width))) [
+    | yes h ↦ h
+    | no h ↦ absurd (beyond-cell p (i .height .least) (pixelPiece p) (i .down) (omega arith))
+  ];
   same = λ p k i l. sym (piece-is (toRight p k) i (pixelPiece p) (up-to-end p (i .height .least) (pixelPiece p) (omega arith) (piece-holds p (inside-at i (omega (arith, i .across)))) l));
   beyond = λ p k i l e.
       let h = subst (λ q. At p (i .height .least) q (p .a + k)) e (piece-holds (toRight p k) i) in

@@ -33,9 +33,10 @@ endOf right p = suc (p .width)
 endOf bottom p = ceiling (p .b * p .width) (p .height)
 endOf left p = ceiling (min (p .b * p .width) (p .width * p .height - p .b * p .width)) (p .height)
 
--- a pixel's piece holds the pixels of the cell to its right that lie before that end, and none from there on
+-- a pixel's piece holds the pixels of the cell to its right that lie before that end, and none from there on; the end is no further than the cell's
 pub record SpanLaws : Type 0 where
   pub starts : (p : Pixel) → Inside p → p .a < endOf (pixelPiece p) p
+  pub within : (p : Pixel) → Inside p → endOf (pixelPiece p) p ≤ suc (p .width)
   pub same : (p : Pixel) (k : ℕ) → Inside (toRight p k) → p .a + k < endOf (pixelPiece p) p → pixelPiece (toRight p k) ≡ pixelPiece p
   pub beyond : (p : Pixel) (k : ℕ) → Inside (toRight p k) → endOf (pixelPiece p) p ≤ p .a + k → ¬ (pixelPiece (toRight p k) ≡ pixelPiece p)
   -- no row has pixels of top and of bottom, so it has three spans at most

@@ -1,18 +1,13 @@
 -- `checking::line_y` meets its contract. Assumes nothing.
-use denote.Ref.{now}
 use mathlib.Core.Path.{refl, _∙_}
 use borrow.Author.Needs.{needs}
 use native.Mathlib.Omega.{arith}
-use Rattle.sheet.specs.WellFormed.{WellFormed}
 use Rattle.sheet.proofs.WellFormed.{accepted-laws, header-there}
 use Rattle.checking.proofs.line_y.Statement.{statement}
 use Rattle.checking.proofs.line_y.Tie as tie
 
-sound : (s : tie.Start) → WellFormed (now (s .args .sheet))
-sound s = accepted-laws .sound _ (s .pre .0)
-
 word-requires : tie.Need-word-requires
-word-requires c κs = let s = c .before .before in rw (c .columns .ensures .0) (omega (arith, sound s .whole, s .pre .1))
+word-requires c κs = let s = c .before .before in rw (c .columns .ensures .0) (omega (arith, accepted-laws .sound _ (s .pre .0) .whole, s .pre .1))
 
 returns : tie.Need-returns
 returns c = c .word .ensures .0 ∙ rw (c .before .columns .ensures .0) refl
@@ -24,7 +19,7 @@ line-y-spec =
     (λ c κs. header-there _ (c .before .pre .0))
     (λ c. search needs)
     (λ c. search needs)
-    (λ c. let many = sound (c .before .before) .manyRows in search needs)
-    (λ c. let many = sound (c .before .before) .manyRows in search needs)
+    (λ c. let many = accepted-laws .sound _ (c .before .before .pre .0) .manyRows in search needs)
+    (λ c. let many = accepted-laws .sound _ (c .before .before .pre .0) .manyRows in search needs)
     word-requires
     returns)
