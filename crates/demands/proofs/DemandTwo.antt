@@ -1,6 +1,10 @@
 -- Demand 2, from the laws of readings and runs, of the element and of the rounding rule. Assumes nothing.
+use Prim.Native.Nat.{ℕ, suc}
 use mathlib.Core.Path.{_≡_, sym, _∙_}
-use mathlib.Core.List.{[], _∷_}
+use mathlib.Core.List.{List, [], _∷_}
+use native.Mathlib.Omega.{arith}
+use lib.ListN.{length, take}
+use lib.Ieee.{Float}
 use lib.Dec.{lit≤}
 use lib.IntN.{ℤ, pos, _+ℤ_}
 use Rattle.integers.proofs.Polynomial.{#_, _⊕_, _⊗_}
@@ -23,7 +27,9 @@ use Rattle.surface.proofs.Places.{place-laws}
 use Rattle.surface.proofs.Answered.{read-laws}
 use Rattle.surface.proofs.AtNodes.{at-nodes}
 use Rattle.surface.proofs.Runs.{run-laws}
-use Rattle.demands.specs.Demands.{DemandTwo}
+use Rattle.light_sheet_c.proofs.Stored.{over-first}
+use Rattle.demands.specs.Demands.{ReadInto, DemandTwo}
+use Rattle.demands.proofs.Readings.{all-values, kind-held}
 
 -- n/d = z + 1/2
 tie : (x : ℚ) (z : ℤ) → x ≈ whole z +ℚ half → rounded x ≡ z +ℤ pos 1
@@ -32,6 +38,12 @@ tie x z e = rounding-laws .tie (x .numerator) (x .denominator .number) (x .denom
     (deduce 3 (λ n d z. (# 1 · (n ⊗ (# 1 ⊗ (# 1 ⊗ # 2)) ≐ (z ⊗ (# 1 ⊗ # 2) ⊕ # 1 ⊗ # 1) ⊗ d)) ∷ [] ⊨ # 2 ⊗ n ≐ (# 2 ⊗ z ⊕ # 1) ⊗ d) tt
     (x .numerator) (pos (x .denominator .number)) z (e .crossed))
 
+-- an array of three places has room for the values of any kind
+stored-first : {s : List ℕ} {x y kind : ℕ} {array array′ : List Float} (c : ReadInto s x y kind array 0 array′) → length array ≡ 3 →
+    take (suc kind) array′ ≡ outcome (c .reading) .values
+stored-first {array} c e = let z = sym (c .answer) in let n = all-values (c .isRead) z in
+    rw (c .values, ← n) (over-first _ array (omega (arith, e, n, kind-held (c .isRead) z)))
+
 pub demand-two : DemandTwo
 unfolding outcome answered element reading.level reading.tiltX reading.tiltY reading.bendXX reading.bendXY reading.bendYY setOf levelAt tiltXAt tiltYAt bendXXAt bendXYAt bendYYAt level tiltX tiltY bendXX bendXY bendYY
 demand-two = record {
@@ -39,6 +51,7 @@ demand-two = record {
   tilts = λ a i c. read-laws .tilt _ _ _ (reading-taken (record { accepted = a; inside = i; kind = lit≤ tt })) _ (c .answer);
   bends = λ a i c. read-laws .bend _ _ _ (reading-taken (record { accepted = a; inside = i; kind = lit≤ tt })) _ (c .answer);
   runs = λ c k l. rw (c .levels) (run-laws .levels _ _ _ _ (sym (c .answer)) k l);
+  arrays = stored-first;
   source = λ s i j k P. sources .pieces k _ P;
   derivatives = derivatives;
   places = place-laws;

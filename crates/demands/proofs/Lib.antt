@@ -1,3 +1,4 @@
+pub mod Readings
 pub mod DemandOne
 pub mod DemandTwo
 pub mod DemandThree

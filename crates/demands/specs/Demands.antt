@@ -1,11 +1,13 @@
--- The customer's three demands, sentence by sentence, of whatever the calls of crates/light_sheet may give and leave by their contracts. Assumes nothing.
+-- The customer's three demands, sentence by sentence, of whatever the calls of crates/light_sheet, and those for C, may give and leave by their contracts. Assumes
+-- nothing.
 use Prim.Native.Nat.{ℕ, suc, _+_, _≤_, _<_}
 use mathlib.Core.Path.{_≡_}
 use mathlib.Core.Logic.{_↔_}
 use mathlib.Core.List.{List, [], _∷_, map}
 use denote.Ref.{RefT, now}
 use lib.IntN.{ℤ, pos, _+ℤ_, _*ℤ_}
-use lib.ListN.{length, getD}
+use lib.ListN.{length, getD, take}
+use lib.Ieee.{Float}
 use Rattle.sibson.specs.Fraction.{positive, ℚ, _≈_, _+ℚ_, _-ℚ_, _·ℚ_, whole, half}
 use Rattle.sibson.specs.Cubic.{Cell, Point, Jet, Bend, value, jet, bend, _≋_}
 use Rattle.sibson.specs.Piece.{Piece, top, right, bottom, left, FourCubics, edge}
@@ -31,6 +33,7 @@ use Rattle.surface.specs.Read.{read}
 use Rattle.surface.specs.Run.{filled}
 use Rattle.surface.specs.Touching.{PlaceLaws}
 use Rattle.surface.specs.Theorems.{HalfUnitsFrom}
+use Rattle.light_sheet_c.specs.Values.{over}
 
 -- ---- the contracts of the calls: what each gives and leaves follows from its input
 
@@ -60,6 +63,19 @@ pub record FillRun (s : List ℕ) (x y : ℕ) (row : List ℤ) (n : ℕ) (row′
   pub answer : n ≡ runRefusal s x y (length row)
   pub levels : row′ ≡ filled s x y row
 
+-- the calls for C, of crates/light_sheet_c: four meet the records above, and the two below are theirs alone
+
+-- `lvs_node_offset` gives k
+pub record NodeOffset (s : List ℕ) (i j k : ℕ) : Type 0 where
+  pub answer : k ≡ lookedUp s i j .start
+
+-- `lvs_read` on the array gives n and leaves array′: the number and the values of a reading
+pub record ReadInto (s : List ℕ) (x y kind : ℕ) (array : List Float) (n : ℕ) (array′ : List Float) : Type 0 where
+  pub reading : Answer
+  pub isRead : Read s x y kind reading
+  pub answer : n ≡ outcome reading .number
+  pub values : array′ ≡ over (outcome reading .values) array
+
 -- ---- demand 1
 
 -- n is the number that a call gives which makes these checks of the table on its input u: a refusal's exactly when its condition is the first of them in order
@@ -70,14 +86,18 @@ pub record Gives (checks : List ℕ) (u : Input) (n : ℕ) : Type 0 where
 
 pub record DemandOne : Type 0 where
   -- "The memory a caller lends, sheet or row, comes back with only those places altered that the call is there to write, and after a refusal with none
-  -- altered." `set_node` is there to write the bytes of a node, `fill_run` all places of the row. What is lent by `&`, to the other calls and as the sheet of
-  -- `fill_run`, none can alter
+  -- altered." `set_node` is there to write the bytes of a node, `fill_run` all places of the row, and `lvs_read` as many of the array as the kind has values: one,
+  -- two or three. What is lent by `&`, to the other calls and as the sheet of `fill_run` and `lvs_read`, none can alter
   pub sheetSize : {s t : List ℕ} {i j n : ℕ} {v : Node} → SetNode s i j v n t → length t ≡ length s
   pub beforeNode : {s t : List ℕ} {i j n : ℕ} {v : Node} → SetNode s i j v n t → (k : ℕ) → k < nodeOffset s i j → byteAt t k ≡ byteAt s k
   pub afterNode : {s t : List ℕ} {i j n : ℕ} {v : Node} → SetNode s i j v n t → (k : ℕ) → nodeOffset s i j + nodeSize ≤ k → byteAt t k ≡ byteAt s k
   pub sheetRefused : {s t : List ℕ} {i j n : ℕ} {v : Node} → SetNode s i j v n t → ¬ (n ≡ 0) → t ≡ s
   pub rowSize : {s : List ℕ} {x y n : ℕ} {row row′ : List ℤ} → FillRun s x y row n row′ → length row′ ≡ length row
   pub rowRefused : {s : List ℕ} {x y n : ℕ} {row row′ : List ℤ} → FillRun s x y row n row′ → ¬ (n ≡ 0) → row′ ≡ row
+  pub arraySize : {s : List ℕ} {x y kind n : ℕ} {array array′ : List Float} → ReadInto s x y kind array n array′ → length array′ ≡ length array
+  pub arrayBehind : {s : List ℕ} {x y kind n : ℕ} {array array′ : List Float} → ReadInto s x y kind array n array′ → (k : ℕ) → kind < k → (v : Float) →
+      getD array′ k v ≡ getD array k v
+  pub arrayRefused : {s : List ℕ} {x y kind n : ℕ} {array array′ : List Float} → ReadInto s x y kind array n array′ → ¬ (n ≡ 0) → array′ ≡ array
   -- "This holds for all input, with no reading past the lent part, no wrapped sum and no call that fails to end." No public call has a `requires`, and of
   -- every function the gate shows that it reads and writes within bounds, that no operation loses a bit, and that it ends
 
@@ -92,6 +112,9 @@ pub record DemandOne : Type 0 where
   -- a lookup that its companion says is refused hands back an empty part from the sheet's start; else the node's six bytes, where they lie
   pub emptyPart : {s r : RefT (List ℕ)} {i j n : ℕ} → NodeCall s i j r → NodeRefusal (now s) i j n → ¬ (n ≡ 0) → Part s r (span 0 0)
   pub nodePart : {s r : RefT (List ℕ)} {i j n : ℕ} → NodeCall s i j r → NodeRefusal (now s) i j n → n ≡ 0 → Part s r (span (nodeOffset (now s) i j) nodeSize)
+  -- in C the part is known by where it starts: 0 exactly where the lookup is refused, for no node starts there
+  pub offset : {s : List ℕ} {i j k n : ℕ} → NodeOffset s i j k → NodeRefusal s i j n → n ≡ 0 → k ≡ nodeOffset s i j
+  pub noOffset : {s : List ℕ} {i j k n : ℕ} → NodeOffset s i j k → NodeRefusal s i j n → (k ≡ 0) ↔ ¬ (n ≡ 0)
   -- a reading that is refused gives its number and nothing else
   pub noValues : {s : List ℕ} {x y kind : ℕ} {r : Answer} → Read s x y kind r → ¬ (outcome r .number ≡ 0) → outcome r .values ≡ []
   -- the table: its numbers in order, the condition of each, and what the conditions say
@@ -130,6 +153,9 @@ pub record DemandTwo : Type 0 where
       (quotient (positive 4096 tt) (rounded (pos 64 ·ℚ pixelBend s x y .yy)))
   pub runs : {s : List ℕ} {x y : ℕ} {row row′ : List ℤ} → FillRun s x y row 0 row′ → (k : ℕ) → k < length row →
       getD row′ k (pos 0) ≡ rounded (pixelJet s (x + k) y .height)
+  -- what a reading gives in C: its values, in the first places of the array, one, two or three
+  pub arrays : {s : List ℕ} {x y kind : ℕ} {array array′ : List Float} (c : ReadInto s x y kind array 0 array′) → length array ≡ 3 →
+      take (suc kind) array′ ≡ outcome (c .reading) .values
   -- the element of NISTIR 6718: its formulas 105 to 108, put right where 01 says, for the corner numbers of each cell
   pub source : (s : List ℕ) (i j : ℕ) (k : Piece) (P : Point) →
       value (setOf s i j k) P ≈ value (halved (nistir.table k) (cornerNumbers (cellOf s i j) (nodesOf s i j))) (nistir.source k P)

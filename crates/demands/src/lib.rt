@@ -1,5 +1,6 @@
 // The customer's three demands, each one theorem. A theorem is the contract of a function that returns 0, so that the gate asks for its proof.
 pub mod calls;
+pub mod calls_for_c;
 
 ghost use mathlib.Core.Path.{_≡_};
 ghost use Rattle.demands.specs.Demands.{DemandOne, DemandTwo, DemandThree};

@@ -4,13 +4,17 @@ use mathlib.Core.Path.{_≡_, sym, _∙_, ap}
 use mathlib.Core.List.{List}
 use mathlib.Core.Bool.{Bool, true, false, cond}
 use native.Mathlib.Omega.{arith}
+use lib.IntN.{ℤ}
+use mir.Syntax.{w32}
+use mir.Val.{SFits, toZ, ofZ}
 use Rattle.words.specs.Word.{replaced}
-use Rattle.sheet.specs.Format.{Node, encoded, nodeSize, nodeOffset}
+use Rattle.sheet.specs.Format.{Node, node, encoded, nodeSize, nodeOffset}
 use Rattle.sheet.specs.Refusals.{noNode, wrongNumbers, checkRefusal, lookupRefusal, settingRefusal}
 use Rattle.sheet.specs.Calls.{span, lookedUp, withNode}
 use Rattle.sheet.proofs.Chains.{refused-by, passed-by, lookup-is, setting-is}
 use Rattle.sheet.proofs.Lookup.{lookup-laws}
 use Rattle.sheet.proofs.Setting.{set-is, refused-is}
+use Rattle.nodes.proofs.Numbers.{back}
 
 -- ---- the lookup's
 
@@ -48,3 +52,8 @@ module _ (s : List ℕ) (i j : ℕ) (v : Node) where
 
       pub set-done : w ≡ false → {at : ℕ} {t : List ℕ} → at ≡ nodeOffset s i j → t ≡ replaced s at (encoded u) → Sets 0 t
       set-done h a k = let n = numbers-answer h in (n, k ∙ rw (a, f) (sym (set-is s i j v (sym n))))
+
+-- a caller's numbers as the machine hands them on: what is set is the caller's
+pub handed-on : (s : List ℕ) (i j : ℕ) {h x y : ℤ} → SFits w32 h → SFits w32 x → SFits w32 y → {n : ℕ} {t : List ℕ}
+    → Sets s i j (node (toZ w32 (ofZ w32 h)) (toZ w32 (ofZ w32 x)) (toZ w32 (ofZ w32 y))) n t → Sets s i j (node h x y) n t
+handed-on s i j f g k e = let v = back f g k in (e .0 ∙ ap (settingRefusal s i j) v, e .1 ∙ ap (withNode s i j) v)

@@ -1,18 +1,12 @@
 -- `light_sheet::set_node` meets its contract. Assumes nothing.
-use mathlib.Core.Path.{_∙_, ap}
 use borrow.Author.Needs.{needs}
-use Rattle.sheet.specs.Refusals.{settingRefusal}
-use Rattle.sheet.specs.Calls.{withNode}
-use Rattle.nodes.proofs.Numbers.{back}
+use Rattle.nodes.proofs.Answers.{handed-on}
 use Rattle.light_sheet.proofs.set_node.Statement.{statement}
 use Rattle.light_sheet.proofs.set_node.Tie as tie
 
 returns : tie.Need-returns
-returns c =
-    let d = c .before .before in
-    let s = d .before .before .before in
-    let v = back (s .fits .height) (s .fits .x-slope) (s .fits .y-slope) in
-    (d .set-node .ensures .0 ∙ ap (settingRefusal _ _ _) v, d .set-node .ensures .1 ∙ ap (withNode _ _ _) v)
+returns c = let d = c .before .before in let s = d .before .before .before in
+    handed-on _ _ _ (s .fits .height) (s .fits .x-slope) (s .fits .y-slope) (d .set-node .ensures)
 
 pub set-node-spec : {M : Type 1} → statement M
 set-node-spec = tie.close (tie.spec (λ c κs. search needs) (λ c. search needs) returns)

@@ -1,0 +1,102 @@
+// The calls of a light sheet for C and Rust, each thin over the call of `light_sheet` and with the same outcome: no call has a `requires`. A slice is a
+// pointer and a length in C, an array a pointer; include/light_sheet.h declares the calls.
+ghost use mathlib.Core.Path.{_≡_};
+ghost use lib.ListN.{length};
+ghost use Rattle.sheet.specs.Format.{node};
+ghost use Rattle.sheet.specs.Refusals.{checkRefusal, lookupRefusal, settingRefusal, runRefusal};
+ghost use Rattle.sheet.specs.Calls.{lookedUp, withNode};
+ghost use Rattle.answers.specs.Answers.{outcome};
+ghost use Rattle.surface.specs.Read.{read};
+ghost use Rattle.surface.specs.Run.{filled};
+ghost use Rattle.light_sheet_c.specs.Values.{over};
+use answers::Answer;
+
+// Checks a sheet: 0 where it is accepted, else the number of the first of the conditions 1 to 6 that holds.
+#[no_mangle]
+pub extern "C" fn lvs_check(sheet: &[u8]) -> u32
+    ensures { λ r. ⌜ r ≡ checkRefusal (now (sheet .entry)) ⌝ }
+{
+    light_sheet::check(sheet)
+}
+
+// The number that refuses looking up the node at a column and row (1 to 6, 10), or 0.
+#[no_mangle]
+pub extern "C" fn lvs_node_refusal(sheet: &[u8], column: u32, row: u32) -> u32
+    ensures { λ r. ⌜ r ≡ lookupRefusal (now (sheet .entry)) column row ⌝ }
+{
+    light_sheet::node_refusal(sheet, column, row)
+}
+
+// Where the six bytes of the node at a column and row start in the sheet; or, refused, 0. C has no slices: this is the start of the part that `node` hands
+// back.
+#[no_mangle]
+pub extern "C" fn lvs_node_offset(sheet: &[u8], column: u32, row: u32) -> usize
+    ensures { λ r. ⌜ r ≡ lookedUp (now (sheet .entry)) column row .start ⌝ }
+{
+    if light_sheet::node_refusal(sheet, column, row) != 0 {
+        return 0;
+    }
+    checking::node_offset(sheet, column as usize, row as usize)
+}
+
+// Sets the node at a column and row to a height, in steps, and two slopes, in grains per pixel, and answers 0; or, refused (1 to 6, 10, 11), answers the
+// number and leaves the sheet as it was.
+#[no_mangle]
+pub extern "C" fn lvs_set_node(
+    sheet: &mut [u8],
+    column: u32,
+    row: u32,
+    height: i32,
+    x_slope: i32,
+    y_slope: i32,
+) -> u32
+    ensures answer { λ r. ⌜ r ≡ settingRefusal (now (sheet .entry)) column row (node height «x_slope» «y_slope») ⌝ }
+    ensures sheet { λ r. ⌜ now (sheet .exit) ≡ withNode (now (sheet .entry)) column row (node height «x_slope» «y_slope») ⌝ }
+{
+    light_sheet::set_node(sheet, column, row, height, x_slope, y_slope)
+}
+
+// Reads at the pixel (x, y) into the first places of `values`: kind 0 the level, one place; 1 the tilt, two; 2 the bend, three; and answers 0. The places
+// behind keep their contents. Refused (1 to 6, 7, 9), it answers the number, and all three keep theirs.
+#[no_mangle]
+pub extern "C" fn lvs_read(sheet: &[u8], x: u32, y: u32, kind: u32, values: &mut [f64; 3]) -> u32
+    ensures answer { λ r. ⌜ r ≡ read (now (sheet .entry)) x y kind .number ⌝ }
+    ensures values { λ r. ⌜ now (values .exit) ≡ over (read (now (sheet .entry)) x y kind .values) (now (values .entry)) ⌝ }
+{
+    store(light_sheet::read(sheet, x, y, kind), values)
+}
+
+// Fills the lent row with the levels at the pixel (x, y) and at those to its right, one for each place, in grains, and answers 0; or, refused (1 to 6, 7, 8),
+// answers the number and leaves the row as it was.
+#[no_mangle]
+pub extern "C" fn lvs_fill_run(sheet: &[u8], x: u32, y: u32, levels: &mut [i32]) -> u32
+    ensures answer { λ r. ⌜ r ≡ runRefusal (now (sheet .entry)) x y (length (now (levels .entry))) ⌝ }
+    ensures levels { λ r. ⌜ now (levels .exit) ≡ filled (now (sheet .entry)) x y (now (levels .entry)) ⌝ }
+{
+    light_sheet::fill_run(sheet, x, y, levels)
+}
+
+// Stores an answer's values in the first places, and gives its number.
+fn store(answer: Answer, values: &mut [f64; 3]) -> u32
+    ensures answer { λ r. ⌜ r ≡ outcome answer .number ⌝ }
+    ensures values { λ r. ⌜ now (values .exit) ≡ over (outcome answer .values) (now (values .entry)) ⌝ }
+{
+    match answer {
+        Answer::Level(level) => {
+            values[0] = level;
+            0
+        }
+        Answer::Tilt(x, y) => {
+            values[0] = x;
+            values[1] = y;
+            0
+        }
+        Answer::Bend(xx, xy, yy) => {
+            values[0] = xx;
+            values[1] = xy;
+            values[2] = yy;
+            0
+        }
+        Answer::Refused(number) => number,
+    }
+}
