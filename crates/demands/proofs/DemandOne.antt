@@ -39,6 +39,7 @@ demand-one = record {
   lookup = λ c. gives _ _ (c .answer);
   setting = λ c. gives _ _ (c .answer);
   reading = λ c. gives _ _ (number-is c);
+  arrayReading = λ c. gives _ _ (c .answer ∙ number-is (c .isRead));
   run = λ c. gives _ _ (c .answer);
   emptyPart = λ c d h. subst (Part _ _) (lookup-laws .refused _ _ _ (λ e. h (d .answer ∙ e))) (c .part);
   nodePart = λ c d e. subst (Part _ _) (lookup-laws .found _ _ _ (sym (d .answer) ∙ e)) (c .part);

@@ -107,6 +107,8 @@ pub record DemandOne : Type 0 where
   pub setting : {s t : List ℕ} {i j n : ℕ} {v : Node} → SetNode s i j v n t → Gives (1 ∷ 2 ∷ 3 ∷ 4 ∷ 5 ∷ 6 ∷ 10 ∷ 11 ∷ []) (atNode s i j v) n
   pub reading : {s : List ℕ} {x y kind : ℕ} {r : Answer} → Read s x y kind r →
       Gives (1 ∷ 2 ∷ 3 ∷ 4 ∷ 5 ∷ 6 ∷ 7 ∷ 9 ∷ []) (atPixel s x y 0 kind) (outcome r .number)
+  pub arrayReading : {s : List ℕ} {x y kind n : ℕ} {array array′ : List Float} → ReadInto s x y kind array n array′ →
+      Gives (1 ∷ 2 ∷ 3 ∷ 4 ∷ 5 ∷ 6 ∷ 7 ∷ 9 ∷ []) (atPixel s x y 0 kind) n
   pub run : {s : List ℕ} {x y n : ℕ} {row row′ : List ℤ} → FillRun s x y row n row′ →
       Gives (1 ∷ 2 ∷ 3 ∷ 4 ∷ 5 ∷ 6 ∷ 7 ∷ 8 ∷ []) (atPixel s x y (length row) 0) n
   -- a lookup that its companion says is refused hands back an empty part from the sheet's start; else the node's six bytes, where they lie

@@ -1,0 +1,74 @@
+/* What a server does with a sheet, by each of the six calls: checks it, reads at a pixel, fills the row from there on, finds a node, sets it, reads it back.
+ * Usage: sheet FILE [X Y]; without a pixel, at the mesh's first. */
+#include <inttypes.h>
+#include <stdio.h>
+#include <stdlib.h>
+
+#include "light_sheet.h"
+
+static const char *const meaning[] = {
+    "done", "mark", "version", "counts", "length", "lines", "nodes", "outside the mesh", "empty run", "reading kind", "no such node", "new numbers",
+};
+
+/* Ends the program where a call is refused. */
+static void expect(const char *call, uint32_t number) {
+    if (number != LVS_DONE) {
+        printf("%s refused %" PRIu32 ": %s\n", call, number, meaning[number]);
+        exit(1);
+    }
+}
+
+static uint32_t word(const uint8_t *at) { return at[0] | (uint32_t)at[1] << 8; }
+
+static int32_t signed_word(const uint8_t *at) { return (int32_t)(word(at) ^ 0x8000) - 0x8000; }
+
+/* Level, tilt and bend at a pixel. */
+static void print_readings(const uint8_t *sheet, size_t len, uint32_t x, uint32_t y) {
+    double v[3];
+    expect("level", lvs_read(sheet, len, x, y, LVS_LEVEL, v));
+    printf("level at %" PRIu32 ",%" PRIu32 ": %.17g steps\n", x, y, v[0]);
+    expect("tilt", lvs_read(sheet, len, x, y, LVS_TILT, v));
+    printf("tilt: %.17g %.17g steps per pixel\n", v[0], v[1]);
+    expect("bend", lvs_read(sheet, len, x, y, LVS_BEND, v));
+    printf("bend: %.17g %.17g %.17g steps per pixel per pixel\n", v[0], v[1], v[2]);
+}
+
+/* The levels from a pixel to the right edge of the mesh; the sheet is accepted, the pixel of the mesh. */
+static void print_row(const uint8_t *sheet, size_t len, uint32_t x, uint32_t y) {
+    static int32_t levels[LVS_MAX_RUN];
+    uint32_t columns = sheet[5];
+    size_t count = word(sheet + 8 + 2 * (columns - 1)) - x + 1;
+    expect("run", lvs_fill_run(sheet, len, x, y, levels, count));
+    printf("levels along the row, in grains:");
+    for (size_t k = 0; k < count; k++) printf(" %" PRId32, levels[k]);
+    printf("\n");
+}
+
+/* The first node one step brighter. */
+static void brighten_first_node(uint8_t *sheet, size_t len) {
+    expect("lookup", lvs_node_refusal(sheet, len, 0, 0));
+    const uint8_t *node = sheet + lvs_node_offset(sheet, len, 0, 0);
+    int32_t height = signed_word(node), x_slope = signed_word(node + 2), y_slope = signed_word(node + 4);
+    printf("first node: height %" PRId32 ", slopes %" PRId32 " %" PRId32 "\n", height, x_slope, y_slope);
+    expect("setting", lvs_set_node(sheet, len, 0, 0, height + 1, x_slope, y_slope));
+    printf("set to height %" PRId32 "\n", signed_word(node));
+}
+
+int main(int argc, char **argv) {
+    static uint8_t sheet[LVS_MAX_SHEET + 1]; /* one byte more than any sheet has, so that a longer file is refused */
+    FILE *file = argc == 2 || argc == 4 ? fopen(argv[1], "rb") : NULL;
+    if (!file) {
+        fprintf(stderr, "usage: sheet FILE [X Y], where FILE can be read\n");
+        return 2;
+    }
+    size_t len = fread(sheet, 1, sizeof sheet, file);
+    fclose(file);
+    expect("sheet", lvs_check(sheet, len));
+    uint32_t first_x = word(sheet + 8), first_y = word(sheet + 8 + 2 * sheet[5]);
+    uint32_t x = argc == 4 ? (uint32_t)strtoul(argv[2], NULL, 10) : first_x, y = argc == 4 ? (uint32_t)strtoul(argv[3], NULL, 10) : first_y;
+    print_readings(sheet, len, x, y);
+    print_row(sheet, len, x, y);
+    brighten_first_node(sheet, len);
+    print_readings(sheet, len, first_x, first_y);
+    return 0;
+}

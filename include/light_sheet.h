@@ -1,0 +1,87 @@
+/* Light levels of a cinema screen, from a sheet of corrections measured on a mesh over it. The bytes of a sheet and the conditions that refuse a call are in
+ * docs/FORMAT.md.
+ *
+ * Link with liblight_sheet_c.a, for x86-64 Linux: `rt staticlib light_sheet_c` proves the module and writes the archive to target/staticlib. The archive has
+ * these six calls and needs nothing else but memcpy and memset of the C library.
+ *
+ * Of every call:
+ * - Nothing is kept from one call to the next, nothing is allocated, no system call is made, errno is not touched. A call always returns. lvs_fill_run takes
+ *   17 KB of stack, the others less than 1 KB.
+ * - The whole sheet is checked each time, so a sheet need not be checked first. Any bytes may be passed as a sheet: none is read behind len.
+ * - A call that is refused changes no memory that it was lent. The number is that of the first condition, in the order of lvs_refusal, that holds among those
+ *   that concern the call.
+ * - Any number of threads may call at once, also on one sheet, as long as no thread sets a node in it meanwhile.
+ *
+ * The caller's duty, which no call can check:
+ * - sheet points to len bytes, levels to count numbers, values to three; with a length of 0 the pointer is never followed and may be null.
+ * - levels and values do not overlap the sheet, and no other thread writes to what is lent while a call runs.
+ */
+#ifndef LIGHT_SHEET_H
+#define LIGHT_SHEET_H
+
+#include <stddef.h>
+#include <stdint.h>
+
+#ifdef __cplusplus
+extern "C" {
+#endif
+
+/* Why a call is refused. */
+enum lvs_refusal {
+    LVS_DONE = 0,         /* not refused */
+    LVS_MARK = 1,         /* fewer than 8 bytes, or another mark than LVS */
+    LVS_VERSION = 2,      /* the version is not 1 */
+    LVS_COUNTS = 3,       /* lines of an axis not 2 to 65, or byte 7 not 0 */
+    LVS_LENGTH = 4,       /* the length is not the one that the header states */
+    LVS_LINES = 5,        /* a line does not rise, rises by more than 64, or exceeds 4096 */
+    LVS_NODES = 6,        /* a height or slope outside -4095 to 4095 */
+    LVS_OUTSIDE = 7,      /* the pixel, or the last pixel of a run, lies outside the mesh */
+    LVS_EMPTY_RUN = 8,    /* a run of no pixels */
+    LVS_KIND = 9,         /* a reading kind above 2 */
+    LVS_NO_NODE = 10,     /* no such column or row */
+    LVS_NEW_NUMBERS = 11  /* a new height or slope outside -4095 to 4095 */
+};
+
+/* What a reading gives: the height of the surface, its slopes, its second derivatives. */
+enum lvs_kind {
+    LVS_LEVEL = 0, /* one value, in steps of the 12-bit picture code */
+    LVS_TILT = 1,  /* two, along x and along y, in steps per pixel */
+    LVS_BEND = 2   /* three, xx, xy and yy, in steps per pixel per pixel */
+};
+
+/* The largest sheet, in bytes; the bytes of a node; the pixels of the longest row. */
+#define LVS_MAX_SHEET 25618
+#define LVS_NODE_SIZE 6
+#define LVS_MAX_RUN 4097
+
+/* Checks a sheet.
+ * Returns 0 where it is accepted, else 1 to 6. Writes nothing. */
+uint32_t lvs_check(const uint8_t *sheet, size_t len);
+
+/* Says whether the sheet has a node at this column and row, both counted from 0.
+ * Returns 0 where it has, else 1 to 6 or 10. Writes nothing. */
+uint32_t lvs_node_refusal(const uint8_t *sheet, size_t len, uint32_t column, uint32_t row);
+
+/* Finds a node: its height (in steps) and its slopes along x and y (in grains per pixel; a grain is 1/64 step) are three signed 16-bit numbers, low byte
+ * first, in the LVS_NODE_SIZE bytes at sheet + offset.
+ * Returns the offset; or 0, where no node lies, exactly where lvs_node_refusal does not return 0. Writes nothing. */
+size_t lvs_node_offset(const uint8_t *sheet, size_t len, uint32_t column, uint32_t row);
+
+/* Sets a node to a height, in steps, and slopes along x and y, in grains per pixel.
+ * Returns 0, and has written the LVS_NODE_SIZE bytes of the node; or 1 to 6, 10 or 11, and has written nothing. */
+uint32_t lvs_set_node(uint8_t *sheet, size_t len, uint32_t column, uint32_t row, int32_t height, int32_t x_slope, int32_t y_slope);
+
+/* Reads at a pixel of the mesh; pixels on the outer lines belong to it. kind is one of lvs_kind. The values are whole numbers of grains (level, tilt) or of
+ * 1/64 grain (bend), rounded to the nearest, a tie up, and divided by 64 or 4096, which a double holds exactly.
+ * Returns 0, and has written the first one, two or three places of values and kept the others; or 1 to 7 or 9, and has written nothing. */
+uint32_t lvs_read(const uint8_t *sheet, size_t len, uint32_t x, uint32_t y, uint32_t kind, double values[3]);
+
+/* Fills a run of levels along a row of pixels: place k of levels gets the level at the pixel (x + k, y), in grains, as lvs_read rounds it.
+ * Returns 0, and has written all count places; or 1 to 8, and has written nothing. */
+uint32_t lvs_fill_run(const uint8_t *sheet, size_t len, uint32_t x, uint32_t y, int32_t *levels, size_t count);
+
+#ifdef __cplusplus
+}
+#endif
+
+#endif

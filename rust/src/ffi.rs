@@ -1,0 +1,53 @@
+//! The archive's six calls, bare, as its C header has them.
+//!
+//! Each gives 0 or the number of a refusal, but for [`lvs_node_offset`].
+//! None keeps, allocates or shares anything.
+//!
+//! # Safety
+//!
+//! `sheet` must be fit to be read for `len` bytes (and to be written by [`lvs_set_node`]),
+//! `values` to be written for three numbers and `levels` for `count`.
+//! Pointers are aligned for their type; with a length of 0 one is never followed and may be null.
+//! Memory that a call may write is lent to it alone.
+
+extern "C" {
+    /// Checks a sheet.
+    pub fn lvs_check(sheet: *const u8, len: usize) -> u32;
+
+    /// Says whether a node would be found: 0, or the refusal.
+    pub fn lvs_node_refusal(sheet: *const u8, len: usize, column: u32, row: u32) -> u32;
+
+    /// Gives where a node's six bytes start in the sheet, or 0 where refused.
+    pub fn lvs_node_offset(sheet: *const u8, len: usize, column: u32, row: u32) -> usize;
+
+    /// Gives a node new numbers.
+    pub fn lvs_set_node(
+        sheet: *mut u8,
+        len: usize,
+        column: u32,
+        row: u32,
+        height: i32,
+        x_slope: i32,
+        y_slope: i32,
+    ) -> u32;
+
+    /// Reads at a pixel. Places of `values` beyond the kind's count keep their contents.
+    pub fn lvs_read(
+        sheet: *const u8,
+        len: usize,
+        x: u32,
+        y: u32,
+        kind: u32,
+        values: *mut f64,
+    ) -> u32;
+
+    /// Fills a run of levels, in grains, along a row.
+    pub fn lvs_fill_run(
+        sheet: *const u8,
+        len: usize,
+        x: u32,
+        y: u32,
+        levels: *mut i32,
+        count: usize,
+    ) -> u32;
+}

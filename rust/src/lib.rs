@@ -1,0 +1,168 @@
+//! Light levelling for a cinema screen: a safe Rust face on the verified light sheet module.
+//!
+//! A sheet gives a height and two slopes at each node of a rectangular mesh over the screen.
+//! Between the nodes runs the smooth surface of NISTIR 6718, the Sibson element.
+//! From it a server reads the light to add or take away at each pixel.
+//!
+//! Every function works on memory the caller lends, keeps nothing and shares nothing,
+//! so any number of threads may read the same sheet at once.
+//! x runs to the right and y down, both in whole pixels; columns and rows count from 0.
+//!
+//! ```
+//! # fn main() -> Result<(), light_sheet::Refusal> {
+//! // Lines 0 and 2 both ways; the left top node is one step high, all else is 0.
+//! let mut sheet = [0; 40];
+//! sheet[..8].copy_from_slice(b"LVS\x01\x00\x02\x02\x00");
+//! sheet[10] = 2;
+//! sheet[14] = 2;
+//! sheet[16] = 1;
+//! light_sheet::check(&sheet)?;
+//!
+//! // A quarter step in the middle, falling to the right and downwards.
+//! assert_eq!(light_sheet::level(&sheet, 1, 1)?, 0.25);
+//! assert_eq!(light_sheet::tilt(&sheet, 1, 1)?, [-0.375, -0.375]);
+//! assert_eq!(light_sheet::bend(&sheet, 1, 1)?, [0.0, 0.75, 0.0]);
+//!
+//! // The top row, in grains.
+//! let mut levels = [0; 3];
+//! light_sheet::fill_run(&sheet, 0, 0, &mut levels)?;
+//! assert_eq!(levels, [64, 32, 0]);
+//!
+//! // A node set to new numbers reads back as those numbers.
+//! let node = light_sheet::Node { height: 3, x_slope: -2, y_slope: 0 };
+//! light_sheet::set_node(&mut sheet, 1, 0, node)?;
+//! assert_eq!(light_sheet::node_numbers(&sheet, 1, 0)?, node);
+//! assert_eq!(light_sheet::level(&sheet, 2, 0)?, 3.0);
+//!
+//! assert_eq!(light_sheet::level(&sheet, 3, 0), Err(light_sheet::Refusal::Pixel));
+//! # Ok(())
+//! # }
+//! ```
+
+#![deny(missing_docs)]
+
+pub mod ffi;
+mod refusal;
+
+pub use refusal::Refusal;
+
+/// Grains in a step: runs and slopes are in grains, heights and levels in steps.
+pub const GRAINS_PER_STEP: i32 = 64;
+
+/// Reading kind 0: the level.
+pub const LEVEL: u32 = 0;
+/// Reading kind 1: the tilt.
+pub const TILT: u32 = 1;
+/// Reading kind 2: the bend.
+pub const BEND: u32 = 2;
+
+/// The three numbers of a node.
+#[derive(Clone, Copy, Debug, Default, PartialEq, Eq, Hash)]
+pub struct Node {
+    /// In steps of the 12-bit picture code, −4,095 to 4,095.
+    pub height: i32,
+    /// Rise to the right in grains per pixel, −4,095 to 4,095.
+    pub x_slope: i32,
+    /// Rise downwards in grains per pixel, −4,095 to 4,095.
+    pub y_slope: i32,
+}
+
+/// What [`read`] hands back, by kind.
+#[derive(Clone, Copy, Debug, PartialEq)]
+pub enum Reading {
+    /// Kind 0: the level in steps, as [`level`] gives it.
+    Level(f64),
+    /// Kind 1: the tilt, x then y, as [`tilt`] gives it.
+    Tilt([f64; 2]),
+    /// Kind 2: the bend, xx, xy, yy, as [`bend`] gives it.
+    Bend([f64; 3]),
+}
+
+/// Checks a sheet: refusals 1 to 6. Every other call makes the same checks first.
+pub fn check(sheet: &[u8]) -> Result<(), Refusal> {
+    // SAFETY: the slice is lent for its whole length and only read.
+    answer(unsafe { ffi::lvs_check(sheet.as_ptr(), sheet.len()) })
+}
+
+/// Finds a node: its six bytes inside the sheet, height, x-slope, y-slope, little-endian.
+pub fn node(sheet: &[u8], column: u32, row: u32) -> Result<&[u8; 6], Refusal> {
+    // SAFETY: the slice is lent for its whole length and only read.
+    let start = unsafe { ffi::lvs_node_offset(sheet.as_ptr(), sheet.len(), column, row) };
+    if start == 0 {
+        // SAFETY: as above.
+        answer(unsafe { ffi::lvs_node_refusal(sheet.as_ptr(), sheet.len(), column, row) })?;
+    }
+    let bytes = sheet[start..].first_chunk().filter(|_| start != 0);
+    Ok(bytes.expect("the archive finds a node inside the sheet or refuses"))
+}
+
+/// Finds a node and gives its three numbers.
+pub fn node_numbers(sheet: &[u8], column: u32, row: u32) -> Result<Node, Refusal> {
+    let &[h0, h1, x0, x1, y0, y1] = node(sheet, column, row)?;
+    Ok(Node {
+        height: i16::from_le_bytes([h0, h1]).into(),
+        x_slope: i16::from_le_bytes([x0, x1]).into(),
+        y_slope: i16::from_le_bytes([y0, y1]).into(),
+    })
+}
+
+/// Gives a node new numbers; the rest of the sheet stays as it is.
+pub fn set_node(sheet: &mut [u8], column: u32, row: u32, node: Node) -> Result<(), Refusal> {
+    let Node { height, x_slope, y_slope } = node;
+    let (start, len) = (sheet.as_mut_ptr(), sheet.len());
+    // SAFETY: the slice is lent for its whole length, to this call alone.
+    answer(unsafe { ffi::lvs_set_node(start, len, column, row, height, x_slope, y_slope) })
+}
+
+/// The level at a pixel, in steps: a whole number of grains divided by 64.
+pub fn level(sheet: &[u8], x: u32, y: u32) -> Result<f64, Refusal> {
+    values(sheet, x, y, LEVEL).map(|[level, _, _]| level)
+}
+
+/// The tilt at a pixel, x then y, in steps per pixel: whole grains per pixel divided by 64.
+pub fn tilt(sheet: &[u8], x: u32, y: u32) -> Result<[f64; 2], Refusal> {
+    values(sheet, x, y, TILT).map(|[tilt_x, tilt_y, _]| [tilt_x, tilt_y])
+}
+
+/// The bend at a pixel, xx, xy, yy, in steps per pixel per pixel.
+///
+/// Each is a whole number of 1/64 grain per pixel per pixel divided by 4,096.
+pub fn bend(sheet: &[u8], x: u32, y: u32) -> Result<[f64; 3], Refusal> {
+    values(sheet, x, y, BEND)
+}
+
+/// Reads at a pixel by the number of the kind: [`LEVEL`], [`TILT`] or [`BEND`].
+pub fn read(sheet: &[u8], x: u32, y: u32, kind: u32) -> Result<Reading, Refusal> {
+    let values = values(sheet, x, y, kind)?;
+    Ok(match kind {
+        LEVEL => Reading::Level(values[0]),
+        TILT => Reading::Tilt([values[0], values[1]]),
+        BEND => Reading::Bend(values),
+        _ => unreachable!("the archive accepted reading kind {kind}"),
+    })
+}
+
+/// Fills `levels` along a row, one per pixel to the right from (x, y), in grains.
+pub fn fill_run(sheet: &[u8], x: u32, y: u32, levels: &mut [i32]) -> Result<(), Refusal> {
+    let (places, count) = (levels.as_mut_ptr(), levels.len());
+    // SAFETY: both slices are lent for their whole length; `levels` to this call alone.
+    answer(unsafe { ffi::lvs_fill_run(sheet.as_ptr(), sheet.len(), x, y, places, count) })
+}
+
+/// The values of a reading; those beyond the kind's count are 0.
+fn values(sheet: &[u8], x: u32, y: u32, kind: u32) -> Result<[f64; 3], Refusal> {
+    let mut values = [0.0; 3];
+    let places = values.as_mut_ptr();
+    // SAFETY: the slice is lent for its whole length and only read; there are three places.
+    answer(unsafe { ffi::lvs_read(sheet.as_ptr(), sheet.len(), x, y, kind, places) })?;
+    Ok(values)
+}
+
+/// What a call's number says. Another number can only come from an archive not made for this crate.
+fn answer(number: u32) -> Result<(), Refusal> {
+    match Refusal::from_number(number) {
+        Some(refusal) => Err(refusal),
+        None if number == 0 => Ok(()),
+        None => panic!("the light sheet archive answered {number}, which is no refusal"),
+    }
+}

@@ -1,0 +1,86 @@
+//! Why a call declines: the eleven conditions, by name and number.
+
+use std::error::Error;
+use std::fmt;
+
+/// The first condition, in order of number, that made a call decline.
+///
+/// A refused call has changed none of the memory it was lent.
+#[derive(Clone, Copy, Debug, PartialEq, Eq, PartialOrd, Ord, Hash)]
+#[repr(u32)]
+pub enum Refusal {
+    /// 1: fewer than 8 bytes, or another mark than `LVS`.
+    Mark = 1,
+    /// 2: the version is not 1.
+    Version = 2,
+    /// 3: a count of lines outside 2 to 65, or byte 7 is not 0.
+    Counts = 3,
+    /// 4: the length is not the one that the counts of lines call for.
+    Length = 4,
+    /// 5: a line does not rise, rises by more than 64, or exceeds 4,096.
+    Lines = 5,
+    /// 6: a height or slope of the sheet outside −4,095 to 4,095.
+    Numbers = 6,
+    /// 7: a pixel outside the mesh, or a run that ends outside it.
+    Pixel = 7,
+    /// 8: an empty run.
+    EmptyRun = 8,
+    /// 9: a reading kind above 2.
+    Kind = 9,
+    /// 10: no such column or row.
+    Node = 10,
+    /// 11: a new height or slope outside −4,095 to 4,095.
+    NewNumbers = 11,
+}
+
+impl Refusal {
+    /// All eleven, in order of number.
+    pub const ALL: [Refusal; 11] = [
+        Refusal::Mark,
+        Refusal::Version,
+        Refusal::Counts,
+        Refusal::Length,
+        Refusal::Lines,
+        Refusal::Numbers,
+        Refusal::Pixel,
+        Refusal::EmptyRun,
+        Refusal::Kind,
+        Refusal::Node,
+        Refusal::NewNumbers,
+    ];
+
+    /// The number of the condition, 1 to 11.
+    pub fn number(self) -> u32 {
+        self as u32
+    }
+
+    /// The refusal that has this number, if one has.
+    pub fn from_number(number: u32) -> Option<Refusal> {
+        Refusal::ALL.into_iter().find(|refusal| refusal.number() == number)
+    }
+
+    /// The condition in plain words.
+    fn words(self) -> &'static str {
+        match self {
+            Refusal::Mark => "fewer than 8 bytes, or another mark than LVS",
+            Refusal::Version => "the sheet's version is not 1",
+            Refusal::Counts => "a count of lines is outside 2 to 65, or byte 7 is not 0",
+            Refusal::Length => "the sheet's length is not the one its counts of lines call for",
+            Refusal::Lines => "a line does not rise, rises by more than 64, or exceeds 4096",
+            Refusal::Numbers => "a height or slope of the sheet is outside -4095 to 4095",
+            Refusal::Pixel => "a pixel is outside the mesh",
+            Refusal::EmptyRun => "the run is empty",
+            Refusal::Kind => "the reading kind is above 2",
+            Refusal::Node => "there is no such column or row",
+            Refusal::NewNumbers => "a new height or slope is outside -4095 to 4095",
+        }
+    }
+}
+
+impl fmt::Display for Refusal {
+    fn fmt(&self, f: &mut fmt::Formatter<'_>) -> fmt::Result {
+        write!(f, "{} (refusal {})", self.words(), self.number())
+    }
+}
+
+impl Error for Refusal {}

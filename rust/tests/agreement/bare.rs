@@ -1,0 +1,39 @@
+//! The bare calls of the archive.
+
+use light_sheet::ffi;
+
+use crate::call::Call;
+
+/// What is lent to a bare call.
+pub struct Places {
+    pub sheet: *mut u8,
+    pub len: usize,
+    pub values: *mut f64,
+    pub row: *mut i32,
+}
+
+/// Makes the call and gives what it returns.
+///
+/// # Safety
+///
+/// The sheet is lent in its length, the values for three numbers, the row for the call's count.
+/// The sheet may be written if the call sets a node.
+pub unsafe fn make(call: &Call, places: &Places) -> usize {
+    let Places { sheet, len, values, row: levels } = *places;
+    // SAFETY: the caller vouches for what is lent.
+    let number = unsafe {
+        match *call {
+            Call::Check => ffi::lvs_check(sheet, len),
+            Call::NodeRefusal { column, row } => ffi::lvs_node_refusal(sheet, len, column, row),
+            Call::NodeOffset { column, row } => {
+                return ffi::lvs_node_offset(sheet, len, column, row);
+            }
+            Call::SetNode { column, row, numbers: [height, x_slope, y_slope] } => {
+                ffi::lvs_set_node(sheet, len, column, row, height, x_slope, y_slope)
+            }
+            Call::Read { x, y, kind } => ffi::lvs_read(sheet, len, x, y, kind, values),
+            Call::FillRun { x, y, count } => ffi::lvs_fill_run(sheet, len, x, y, levels, count),
+        }
+    };
+    number as usize
+}

@@ -1,0 +1,208 @@
+//! The bench: lends a sheet, makes calls on it, and compares all that comes of them.
+
+use crate::bare;
+use crate::call::{Call, Outcome, Written};
+use crate::lent::{untouchable, Lent, Place};
+use crate::random::Random;
+use crate::sheet::Sheet;
+use crate::tally::Tally;
+use crate::wrapped;
+
+/// The longest sheet and the longest run that are lent memory one may touch.
+pub const LONGEST_SHEET: usize = 60_000;
+pub const LONGEST_RUN: usize = 70_000;
+/// The longest run at all: its count does not fit 32 bits, and its memory may not be touched.
+pub const FAR_RUN: usize = (1 << 32) + 10_000;
+/// Sheets up to this length are printed whole.
+const SHORT: usize = 200;
+
+pub struct Bench {
+    name: String,
+    sheet: Lent,
+    decoded: Result<Sheet, u32>,
+    values: Lent,
+    row: Lent,
+    far_row: *mut u8,
+    turns: Random,
+    pub tally: Tally,
+}
+
+impl Bench {
+    pub fn new(seed: u64) -> Bench {
+        Bench {
+            name: String::new(),
+            sheet: Lent::new(LONGEST_SHEET),
+            decoded: Err(1),
+            values: Lent::new(size_of::<[f64; 3]>()),
+            row: Lent::new(size_of::<i32>() * LONGEST_RUN),
+            far_row: untouchable(size_of::<i32>() * FAR_RUN),
+            turns: Random::new(seed),
+            tally: Tally::default(),
+        }
+    }
+
+    /// Lends a sheet to the calls that follow.
+    pub fn lay(&mut self, name: &str, bytes: &[u8]) {
+        self.name = name.to_string();
+        let turn = self.turns.next();
+        self.sheet.allow_writing(true);
+        self.sheet.lend(bytes.len(), Place::in_turn(turn, 1), turn);
+        self.sheet.expect(0, bytes);
+        self.sheet.restore();
+        self.decoded = Sheet::decode(bytes);
+        self.tally.count_sheet(&self.decoded);
+    }
+
+    /// The sheet that lies there, if it is accepted.
+    pub fn sheet(&self) -> Option<&Sheet> {
+        self.decoded.as_ref().ok()
+    }
+
+    /// Makes a call, one in four through the wrapper, and compares its answer and all lent memory.
+    pub fn compare(&mut self, call: Call) -> Outcome {
+        let outcome = call.outcome(&self.decoded);
+        let wrapped = self.turns.once_in(4) && !is_far(&call);
+        self.sheet.allow_writing(matches!(call, Call::SetNode { .. }));
+        self.lend_places(&call);
+        let returned = if wrapped { self.make_wrapped(&call) } else { self.make_bare(&call) };
+        self.expect(&outcome);
+        self.judge(&call, &outcome, returned, wrapped);
+        if let Written::Node { .. } = outcome.written {
+            self.decoded = Sheet::decode(self.sheet.expected());
+        }
+        outcome
+    }
+
+    /// Lends what the call is there to write, besides the sheet.
+    fn lend_places(&mut self, call: &Call) {
+        let turn = self.turns.next();
+        match *call {
+            Call::Read { .. } => {
+                self.values.lend(size_of::<[f64; 3]>(), Place::in_turn(turn, 8), turn)
+            }
+            Call::FillRun { count, .. } if !is_far(call) => {
+                self.row.lend(size_of::<i32>() * count, Place::in_turn(turn, 4), turn);
+            }
+            _ => {}
+        }
+    }
+
+    /// Writes down what lent memory must now hold.
+    fn expect(&mut self, outcome: &Outcome) {
+        match &outcome.written {
+            Written::Nothing => {}
+            Written::Node { offset, bytes } => self.sheet.expect(*offset, bytes),
+            Written::Values(values) => {
+                let bytes: Vec<u8> =
+                    values.iter().flat_map(|value| value.to_bits().to_le_bytes()).collect();
+                self.values.expect(0, &bytes);
+            }
+            Written::Levels(levels) => {
+                let bytes: Vec<u8> = levels.iter().flat_map(|level| level.to_le_bytes()).collect();
+                self.row.expect(0, &bytes);
+            }
+        }
+    }
+
+    /// What is lent to the call: the sheet, and what else it is there to write.
+    fn lent_to(&self, call: &Call) -> Vec<(&'static str, &Lent)> {
+        let mut lent = vec![("sheet", &self.sheet)];
+        match call {
+            Call::Read { .. } => lent.push(("values", &self.values)),
+            Call::FillRun { .. } if !is_far(call) => lent.push(("row", &self.row)),
+            _ => {}
+        }
+        lent
+    }
+
+    /// Counts the call, and reports and mends whatever differs.
+    fn judge(&mut self, call: &Call, outcome: &Outcome, returned: usize, wrapped: bool) {
+        self.tally.count_call(call, outcome, wrapped);
+        let kept = self.lent_to(call).iter().all(|(_, lent)| lent.is_as_expected());
+        if returned == outcome.returned && kept {
+            return;
+        }
+        if let Some(number) = self.tally.count_difference() {
+            let face = if wrapped { "wrapper" } else { "bare call" };
+            let account = self.account(call, outcome, returned);
+            println!("difference {number}: {call:?} ({face})\n{account}");
+        }
+        self.values.restore();
+        self.row.restore();
+        if !self.sheet.is_as_expected() {
+            self.sheet.allow_writing(true);
+            self.sheet.restore();
+        }
+    }
+
+    /// What was expected of a call, and what came of it.
+    fn account(&self, call: &Call, outcome: &Outcome, returned: usize) -> String {
+        let lent = self.lent_to(call).into_iter();
+        let memory: String = lent.filter_map(|(name, lent)| lent.difference(name)).collect();
+        let (sheet, held) = (self.sheet_text(), self.held_text(call));
+        let (expected, written) = (outcome.returned, written_text(&outcome.written));
+        format!(
+            "  sheet: {sheet}\n  expected: returns {expected}, writes {written}\n  \
+             got: returns {returned}{held}\n{memory}"
+        )
+    }
+
+    fn make_bare(&mut self, call: &Call) -> usize {
+        let row = if is_far(call) { self.far_row } else { self.row.pointer() };
+        let places = bare::Places {
+            sheet: self.sheet.pointer(),
+            len: self.sheet.len(),
+            values: self.values.pointer().cast(),
+            row: row.cast(),
+        };
+        // SAFETY: all is lent in the lengths that are passed, though a far row may not be touched.
+        // The sheet may be written while a node is set.
+        unsafe { bare::make(call, &places) }
+    }
+
+    fn make_wrapped(&mut self, call: &Call) -> usize {
+        let by_name = self.turns.once_in(2);
+        let (sheet, values, row) = (&mut self.sheet, &mut self.values, &mut self.row);
+        wrapped::make(call, wrapped::Places { sheet, values, row }, by_name)
+    }
+
+    /// What the values or a short row hold after the call.
+    fn held_text(&self, call: &Call) -> String {
+        match call {
+            Call::Read { .. } => {
+                let places = self.values.bytes().chunks_exact(8);
+                let values = places.map(|place| f64::from_le_bytes(place.try_into().unwrap()));
+                format!(", values hold {:?}", values.collect::<Vec<f64>>())
+            }
+            Call::FillRun { count, .. } if *count <= SHORT => {
+                let places = self.row.bytes().chunks_exact(4);
+                let levels = places.map(|place| i32::from_le_bytes(place.try_into().unwrap()));
+                format!(", row holds {:?}", levels.collect::<Vec<i32>>())
+            }
+            _ => String::new(),
+        }
+    }
+
+    fn sheet_text(&self) -> String {
+        let bytes = self.sheet.expected();
+        if bytes.len() > SHORT {
+            return format!("{} ({} bytes)", self.name, bytes.len());
+        }
+        let hex: String = bytes.iter().map(|byte| format!("{byte:02x}")).collect();
+        format!("{} {hex}", self.name)
+    }
+}
+
+/// Whether a run is so long that its memory may not be touched.
+fn is_far(call: &Call) -> bool {
+    matches!(call, Call::FillRun { count, .. } if *count > LONGEST_RUN)
+}
+
+/// What a call must write, in full if it is short.
+fn written_text(written: &Written) -> String {
+    match written {
+        Written::Nothing => String::from("nothing"),
+        Written::Levels(levels) if levels.len() > SHORT => format!("{} levels", levels.len()),
+        _ => format!("{written:?}"),
+    }
+}

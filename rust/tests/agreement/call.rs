@@ -1,0 +1,161 @@
+//! The six calls, and what each must give and write by the independent implementation.
+
+use crate::fraction::Fraction;
+use crate::sheet::{in_bounds, Sheet, NODE_BYTES};
+
+/// A call on a sheet.
+#[derive(Clone, Copy, Debug)]
+pub enum Call {
+    Check,
+    NodeRefusal { column: u32, row: u32 },
+    NodeOffset { column: u32, row: u32 },
+    SetNode { column: u32, row: u32, numbers: [i32; 3] },
+    Read { x: u32, y: u32, kind: u32 },
+    FillRun { x: u32, y: u32, count: usize },
+}
+
+/// The names of the calls, in the order of [`Call::index`].
+pub const NAMES: [&str; 6] =
+    ["check", "node_refusal", "node_offset", "set_node", "read", "fill_run"];
+
+/// What a call writes into lent memory.
+#[derive(Clone, Debug, PartialEq)]
+pub enum Written {
+    Nothing,
+    Node { offset: usize, bytes: [u8; NODE_BYTES] },
+    Values(Vec<f64>),
+    Levels(Vec<i32>),
+}
+
+/// What a call must come to.
+#[derive(Clone, Debug)]
+pub struct Outcome {
+    /// 0 or the number of the refusal.
+    pub refusal: u32,
+    /// What the call returns.
+    pub returned: usize,
+    pub written: Written,
+    /// Values rounded that were negative ties and positive ones.
+    pub ties: [u64; 2],
+}
+
+impl Call {
+    pub fn index(&self) -> usize {
+        match self {
+            Call::Check => 0,
+            Call::NodeRefusal { .. } => 1,
+            Call::NodeOffset { .. } => 2,
+            Call::SetNode { .. } => 3,
+            Call::Read { .. } => 4,
+            Call::FillRun { .. } => 5,
+        }
+    }
+
+    /// What the call must come to on a sheet, or on bytes that are refused.
+    pub fn outcome(&self, sheet: &Result<Sheet, u32>) -> Outcome {
+        match sheet.as_ref().map_err(|&refusal| refusal).and_then(|sheet| self.accepted(sheet)) {
+            Ok(outcome) => outcome,
+            // Only the offset keeps its refusal to itself.
+            Err(refusal) => Outcome {
+                refusal,
+                returned: if matches!(self, Call::NodeOffset { .. }) {
+                    0
+                } else {
+                    refusal as usize
+                },
+                written: Written::Nothing,
+                ties: [0, 0],
+            },
+        }
+    }
+
+    /// What the call comes to if none of its own conditions refuses it.
+    fn accepted(&self, sheet: &Sheet) -> Result<Outcome, u32> {
+        match *self {
+            Call::Check => Ok(Outcome::writes(Written::Nothing)),
+            Call::NodeRefusal { column, row } => {
+                sheet.node_offset(column, row).ok_or(10u32)?;
+                Ok(Outcome::writes(Written::Nothing))
+            }
+            Call::NodeOffset { column, row } => {
+                let returned = sheet.node_offset(column, row).ok_or(10u32)?;
+                Ok(Outcome { returned, ..Outcome::writes(Written::Nothing) })
+            }
+            Call::SetNode { column, row, numbers } => set_node(sheet, column, row, numbers),
+            Call::Read { x, y, kind } => read(sheet, x, y, kind),
+            Call::FillRun { x, y, count } => fill_run(sheet, x, y, count),
+        }
+    }
+}
+
+impl Outcome {
+    fn writes(written: Written) -> Outcome {
+        Outcome { refusal: 0, returned: 0, written, ties: [0, 0] }
+    }
+
+    /// Rounds exact values and counts the ties among them.
+    fn rounds(exact: &[Fraction], write: impl Fn(Vec<i64>) -> Written) -> Outcome {
+        let rounded = exact.iter().map(|value| value.rounded()).collect();
+        let mut outcome = Outcome::writes(write(rounded));
+        for value in exact.iter().filter(|value| value.is_tie()) {
+            outcome.ties[usize::from(value.numerator > 0)] += 1;
+        }
+        outcome
+    }
+}
+
+fn set_node(sheet: &Sheet, column: u32, row: u32, numbers: [i32; 3]) -> Result<Outcome, u32> {
+    let offset = sheet.node_offset(column, row).ok_or(10u32)?;
+    if !numbers.into_iter().all(in_bounds) {
+        return Err(11);
+    }
+    Ok(Outcome::writes(Written::Node {
+        offset,
+        bytes: node_bytes(numbers.map(|number| number as i16)),
+    }))
+}
+
+/// A node's numbers as they stand in a sheet.
+pub fn node_bytes(numbers: [i16; 3]) -> [u8; NODE_BYTES] {
+    let [height, x_slope, y_slope] = numbers.map(i16::to_le_bytes);
+    [height[0], height[1], x_slope[0], x_slope[1], y_slope[0], y_slope[1]]
+}
+
+fn read(sheet: &Sheet, x: u32, y: u32, kind: u32) -> Result<Outcome, u32> {
+    if !sheet.holds(x, y) {
+        return Err(7);
+    }
+    if kind > 2 {
+        return Err(9);
+    }
+    let exact = sheet.exact(x, y);
+    let values = |divisor: f64| {
+        move |rounded: Vec<i64>| {
+            Written::Values(rounded.iter().map(|&number| number as f64 / divisor).collect())
+        }
+    };
+    Ok(match kind {
+        0 => Outcome::rounds(&[exact.level], values(64.0)),
+        1 => Outcome::rounds(&exact.tilt, values(64.0)),
+        _ => Outcome::rounds(&exact.bend, values(4096.0)),
+    })
+}
+
+fn fill_run(sheet: &Sheet, x: u32, y: u32, count: usize) -> Result<Outcome, u32> {
+    if !sheet.holds(x, y) {
+        return Err(7);
+    }
+    let to_last = (sheet.last_x() - x) as usize;
+    if count > to_last + 1 {
+        return Err(7);
+    }
+    if count == 0 {
+        return Err(8);
+    }
+    let exact: Vec<Fraction> = (x..).take(count).map(|x| sheet.exact(x, y).level).collect();
+    let level = |number: i64| {
+        assert!(number.abs() < 1 << 20, "a level lies strictly within 2^20");
+        number as i32
+    };
+    Ok(Outcome::rounds(&exact, |rounded| Written::Levels(rounded.into_iter().map(level).collect())))
+}

@@ -1,0 +1,71 @@
+//! Compares the archive, and the wrapper around it, with an implementation written apart from it:
+//! from the format's description and from the conditions in section 2 of NISTIR 6718.
+//!
+//! `cargo test --release` makes one round of cases from a fixed seed. With `--seed N` after `--`
+//! it takes another seed, with `--soak SECONDS` it goes on with the next seeds for that long.
+
+mod bare;
+mod battery;
+mod bench;
+mod boundaries;
+mod call;
+mod damage;
+mod draft;
+mod element;
+mod exercise;
+mod far;
+mod fraction;
+mod lent;
+mod meshes;
+mod options;
+mod random;
+mod round;
+mod sheet;
+mod tally;
+mod trust;
+mod vectors;
+mod worst;
+mod wrapped;
+
+use std::process::ExitCode;
+use std::time::Instant;
+
+use bench::Bench;
+use options::Options;
+use random::Random;
+
+fn main() -> ExitCode {
+    let Some(options) = Options::from_arguments() else {
+        return ExitCode::SUCCESS;
+    };
+    let started = Instant::now();
+    let seconds = || started.elapsed().as_secs_f64();
+    println!("agreement: seed {}", options.seed);
+
+    let vectors = vectors::all();
+    trust::check(&mut Random::new(options.seed), &vectors);
+    println!(
+        "the independent implementation meets the conditions, examples and vectors ({:.1} s)",
+        seconds()
+    );
+
+    let mut bench = Bench::new(options.seed);
+    far::run(&mut bench.tally);
+    round::vectors(&mut bench, &vectors);
+    round::run(&mut bench, options.seed);
+    let mut seed = options.seed;
+    while seconds() < options.soak_seconds {
+        seed = seed.wrapping_add(1);
+        round::run(&mut bench, seed);
+        println!("seed {seed}: {} calls so far ({:.0} s)", bench.tally.call_count(), seconds());
+    }
+
+    bench.tally.print(seconds());
+    let complaints = bench.tally.complaints();
+    if complaints.is_empty() {
+        println!("agreement: passed");
+        return ExitCode::SUCCESS;
+    }
+    println!("agreement: FAILED: {}", complaints.join(", "));
+    ExitCode::FAILURE
+}

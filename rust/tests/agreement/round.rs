@@ -1,0 +1,81 @@
+//! One round of cases: all that is compared from one seed.
+
+use crate::battery;
+use crate::bench::Bench;
+use crate::boundaries;
+use crate::call::Written;
+use crate::damage;
+use crate::draft::Draft;
+use crate::exercise::{self, Depth};
+use crate::meshes;
+use crate::random::Random;
+use crate::vectors::Vector;
+use crate::worst;
+
+const SMALL_SHEETS: usize = 2_500;
+const LARGE_SHEETS: usize = 200;
+const DAMAGED_SHEETS: usize = 1_500;
+
+/// Every pixel of any cell.
+const WHOLE: Depth = Depth { pixels: 65 * 65, runs: 20, nodes: 12 };
+const SMALL: Depth = Depth { pixels: 1_500, runs: 20, nodes: 12 };
+const LARGE: Depth = Depth { pixels: 1_000, runs: 12, nodes: 12 };
+const DAMAGED: Depth = Depth { pixels: 100, runs: 4, nodes: 4 };
+
+/// Everything the vectors say, asked of the archive too.
+pub fn vectors(bench: &mut Bench, vectors: &[Vector]) {
+    for vector in vectors {
+        let name = format!("vector {}", vector.name);
+        bench.lay(&name, &vector.bytes);
+        for &(call, _) in &vector.calls {
+            let outcome = bench.compare(call);
+            if let Written::Node { .. } = outcome.written {
+                bench.lay(&name, &vector.bytes);
+            }
+        }
+        exercise::run(bench, &mut Random::new(0), WHOLE);
+    }
+}
+
+/// Everything drawn from a seed.
+pub fn run(bench: &mut Bench, seed: u64) {
+    let random = &mut Random::new(seed);
+    boundary_sheets(bench, random, seed);
+    for (k, draft) in meshes::extremes(random).iter().enumerate() {
+        accepted(bench, random, &format!("seed {seed}, extreme sheet {k}"), draft, LARGE);
+    }
+    for (k, draft) in worst::sheets().iter().enumerate() {
+        accepted(bench, random, &format!("seed {seed}, worst sheet {k}"), draft, WHOLE);
+    }
+    for k in 0..LARGE_SHEETS {
+        let draft = meshes::large(random);
+        accepted(bench, random, &format!("seed {seed}, large sheet {k}"), &draft, LARGE);
+    }
+    for k in 0..SMALL_SHEETS {
+        let draft = meshes::any(random);
+        accepted(bench, random, &format!("seed {seed}, sheet {k}"), &draft, SMALL);
+    }
+    for k in 0..DAMAGED_SHEETS {
+        let draft = meshes::any(random);
+        let (damage, bytes) = damage::damaged(random, &draft);
+        bench.lay(&format!("seed {seed}, damaged sheet {k}: {damage}"), &bytes);
+        exercise::run(bench, random, DAMAGED);
+        battery::run(bench, &draft.sheet());
+    }
+}
+
+fn boundary_sheets(bench: &mut Bench, random: &mut Random, seed: u64) {
+    let base = boundaries::base(random).sheet();
+    for boundary in boundaries::all(random) {
+        bench.lay(&format!("seed {seed}, boundary {}", boundary.name), &boundary.bytes);
+        let mesh = bench.sheet().unwrap_or(&base).clone();
+        exercise::run(bench, random, DAMAGED);
+        battery::run(bench, &mesh);
+    }
+}
+
+fn accepted(bench: &mut Bench, random: &mut Random, name: &str, draft: &Draft, depth: Depth) {
+    bench.lay(name, &draft.bytes());
+    exercise::run(bench, random, depth);
+    battery::run(bench, &draft.sheet());
+}

@@ -1,0 +1,102 @@
+//! What was compared, counted, and the differences found.
+
+use crate::call::{Call, Outcome, Written, NAMES};
+use crate::sheet::Sheet;
+
+/// Fewer than this many sheets or calls compared is a failure.
+const LEAST_SHEETS: u64 = 2_000;
+const LEAST_CALLS: u64 = 5_000_000;
+/// Differences printed in full; more are only counted.
+const SHOWN: u64 = 5;
+/// Refusals are numbered from 1 to this.
+const REFUSALS: usize = 11;
+
+#[derive(Default)]
+pub struct Tally {
+    /// Sheets by refusal, 0 where accepted.
+    sheets: [u64; 7],
+    /// Calls by name and refusal, 0 where accepted.
+    calls: [[u64; REFUSALS + 1]; 6],
+    wrapped: u64,
+    values: u64,
+    levels: u64,
+    ties: [u64; 2],
+    differences: u64,
+}
+
+impl Tally {
+    pub fn count_sheet(&mut self, sheet: &Result<Sheet, u32>) {
+        let refusal = sheet.as_ref().err().map_or(0, |&refusal| refusal as usize);
+        self.sheets[refusal] += 1;
+    }
+
+    pub fn count_call(&mut self, call: &Call, outcome: &Outcome, wrapped: bool) {
+        self.calls[call.index()][outcome.refusal as usize] += 1;
+        self.wrapped += u64::from(wrapped);
+        match &outcome.written {
+            Written::Values(values) => self.values += values.len() as u64,
+            Written::Levels(levels) => self.levels += levels.len() as u64,
+            Written::Nothing | Written::Node { .. } => {}
+        }
+        for (all, new) in self.ties.iter_mut().zip(outcome.ties) {
+            *all += new;
+        }
+    }
+
+    /// Counts a difference. Gives its number if it is among the first, which are told in full.
+    pub fn count_difference(&mut self) -> Option<u64> {
+        self.differences += 1;
+        (self.differences <= SHOWN).then_some(self.differences)
+    }
+
+    pub fn call_count(&self) -> u64 {
+        self.calls.iter().flatten().sum()
+    }
+
+    /// What keeps the run from passing.
+    pub fn complaints(&self) -> Vec<String> {
+        let mut complaints = Vec::new();
+        if self.differences > 0 {
+            complaints.push(format!("{} differences", self.differences));
+        }
+        if self.sheets.iter().sum::<u64>() < LEAST_SHEETS {
+            complaints.push(format!("fewer than {LEAST_SHEETS} sheets"));
+        }
+        if self.call_count() < LEAST_CALLS {
+            complaints.push(format!("fewer than {LEAST_CALLS} calls"));
+        }
+        for refusal in (1..=REFUSALS).filter(|&refusal| self.refused(refusal) == 0) {
+            complaints.push(format!("refusal {refusal} was never met"));
+        }
+        if self.wrapped == 0 || self.levels == 0 || self.ties.contains(&0) {
+            complaints.push("wrapper, levels or ties were never met".to_string());
+        }
+        complaints
+    }
+
+    /// The table of counts.
+    pub fn print(&self, seconds: f64) {
+        let refused: u64 = self.sheets[1..].iter().sum();
+        println!("sheets: {} accepted, {refused} refused", self.sheets[0]);
+        let by_number =
+            |counts: &[u64]| counts.iter().map(|n| format!("{n:>9}")).collect::<String>();
+        let numbers: Vec<u64> = (0..=REFUSALS as u64).collect();
+        println!("{:<13}{:>9}{}", "by refusal", "all", by_number(&numbers));
+        println!("{:<13}{:>9}{}", "sheets", self.sheets[0] + refused, by_number(&self.sheets));
+        for (name, counts) in NAMES.iter().zip(&self.calls) {
+            println!("{name:<13}{:>9}{}", counts.iter().sum::<u64>(), by_number(counts));
+        }
+        let all: Vec<u64> = (0..=REFUSALS).map(|refusal| self.refused(refusal)).collect();
+        println!("{:<13}{:>9}{}", "calls", self.call_count(), by_number(&all));
+        println!("calls made through the safe wrapper: {}", self.wrapped);
+        println!("single numbers compared: {}", self.call_count() + self.values + self.levels);
+        println!("  of them levels in runs: {}", self.levels);
+        println!("ties met: {} positive, {} negative", self.ties[1], self.ties[0]);
+        println!("differences: {}", self.differences);
+        println!("seconds: {seconds:.1}");
+    }
+
+    fn refused(&self, refusal: usize) -> u64 {
+        self.calls.iter().map(|counts| counts[refusal]).sum()
+    }
+}

@@ -1,0 +1,148 @@
+//! Why the independent implementation can be trusted: it meets the conditions that define the
+//! element, the examples in the format's description, and the vectors. It needs no archive for it.
+
+use std::fmt::Write;
+
+use crate::boundaries;
+use crate::call::{Call, Written};
+use crate::draft::Draft;
+use crate::element::{Cell, Corner, Exact, Piece, Weights};
+use crate::fraction::Fraction;
+use crate::random::Random;
+use crate::sheet::Sheet;
+use crate::vectors::Vector;
+
+/// Points looked at on a half diagonal and on an edge, the ends included.
+const POINTS: i128 = 12;
+
+/// Stops at the first doubt.
+pub fn check(random: &mut Random, vectors: &[Vector]) {
+    for _ in 0..2_000 {
+        let cell = any_cell(random);
+        meets_the_conditions(&cell);
+    }
+    worked_examples();
+    for boundary in boundaries::all(random) {
+        let refusal = Sheet::decode(&boundary.bytes).err().unwrap_or(0);
+        assert_eq!(refusal, boundary.refusal, "{}", boundary.name);
+    }
+    for vector in vectors {
+        agrees_with(vector);
+    }
+}
+
+fn any_cell(random: &mut Random) -> Cell {
+    let corners = [0, 1, 2, 3].map(|_| Corner {
+        height: i128::from(random.between(-4095, 4095)) * 64,
+        x_slope: random.between(-4095, 4095).into(),
+        y_slope: random.between(-4095, 4095).into(),
+    });
+    let (width, height) = (random.between(1, 64).into(), random.between(1, 64).into());
+    Cell { width, height, corners }
+}
+
+/// Section 2 of NISTIR 6718: (3) at the corners, (4) along the edges, (5) to (8) on the diagonals.
+fn meets_the_conditions(cell: &Cell) {
+    let pieces = cell.pieces();
+    for (k, piece) in pieces.iter().enumerate() {
+        let next = (k + 1) % 4;
+        has_corner(piece, [1, 0, 0], cell.corners[k]);
+        has_corner(piece, [0, 1, 0], cell.corners[next]);
+        // The cross-edge slope: the y-slope along top and bottom, the x-slope along right and left.
+        let across = (k + 1) % 2;
+        let cross_slopes: Vec<Fraction> =
+            (0..=POINTS).map(|i| piece.at([POINTS - i, i, 0]).tilt[across]).collect();
+        for three in cross_slopes.windows(3) {
+            let [before, middle, after] = [0, 1, 2].map(|i| three[i].numerator);
+            assert_eq!(
+                before - 2 * middle + after,
+                0,
+                "the cross-edge slope of piece {k} is linear"
+            );
+        }
+        for i in 0..=POINTS {
+            let (before, after) =
+                (piece.at([0, i, POINTS - i]), pieces[next].at([i, 0, POINTS - i]));
+            assert!(
+                before.level == after.level && before.tilt == after.tilt,
+                "pieces {k} and {next} meet"
+            );
+        }
+    }
+}
+
+fn has_corner(piece: &Piece, point: Weights, corner: Corner) {
+    let Exact { level, tilt, .. } = piece.at(point);
+    assert!(level == Fraction::new(corner.height, 1));
+    assert!(tilt == [Fraction::new(corner.x_slope, 1), Fraction::new(corner.y_slope, 1)]);
+}
+
+/// Level, tilt and bend at a pixel, rounded.
+fn readings(sheet: &Sheet, x: u32, y: u32) -> [i64; 6] {
+    sheet.exact(x, y).all().map(Fraction::rounded)
+}
+
+fn square(side: u16, nodes: [[i16; 3]; 4]) -> Sheet {
+    Draft { nodes: nodes.to_vec(), ..Draft::flat(&[0, side], &[0, side]) }.sheet()
+}
+
+fn worked_examples() {
+    let flat = [0, 0, 0];
+    let a = square(2, [[1, 0, 0], flat, flat, flat]);
+    assert_eq!(readings(&a, 0, 0), [64, 0, 0, -6144, 0, -6144]);
+    assert_eq!(readings(&a, 1, 1), [16, -24, -24, 0, 3072, 0]);
+    let printed = "0 0 64 0 0\n1 0 32 -48 0\n2 0 0 0 0\n0 1 32 0 -48\n1 1 16 -24 -24\n2 1 0 0 0\n\
+                   0 2 0 0 0\n1 2 0 0 0\n2 2 0 0 0\n";
+    assert_eq!(lines(&a, 5), printed);
+
+    let slope = square(4, [[0, 64, 0], flat, flat, flat]);
+    assert_eq!(readings(&slope, 1, 1)[..4], [30, 14, -12, -2560]);
+    for (slope, level) in [(1, 0), (2, 1), (3, 1), (-2, 0), (-3, -1)] {
+        let sheet = square(2, [[0, slope, 0], flat, flat, flat]);
+        assert_eq!(readings(&sheet, 1, 0)[0], level, "slope {slope}");
+    }
+    let ramp = square(2, [[0, 64, 0], [2, 64, 0], [0, 64, 0], [2, 64, 0]]);
+    assert_eq!(readings(&ramp, 1, 1)[0], 64);
+}
+
+/// A line per pixel: x, y and the first readings, `count` numbers in all.
+fn lines(sheet: &Sheet, count: usize) -> String {
+    let mut text = String::new();
+    for y in sheet.y_lines[0]..=sheet.last_y() {
+        for x in sheet.x_lines[0]..=sheet.last_x() {
+            write!(text, "{x} {y}").unwrap();
+            for reading in &readings(sheet, x, y)[..count - 2] {
+                write!(text, " {reading}").unwrap();
+            }
+            text.push('\n');
+        }
+    }
+    text
+}
+
+fn agrees_with(vector: &Vector) {
+    let name = &vector.name;
+    let decoded = Sheet::decode(&vector.bytes);
+    match &decoded {
+        Ok(sheet) => assert!(lines(sheet, 5) == vector.printed, "{name} prints another text"),
+        Err(refusal) => assert_eq!(format!("refused {refusal}\n"), vector.printed, "{name}"),
+    }
+    if let Some(expected) = &vector.readings {
+        let sheet = decoded.as_ref().expect("a sheet with readings is accepted");
+        assert!(lines(sheet, 8) == *expected, "{name} has other readings");
+        runs_agree(sheet, &decoded);
+    }
+    for (call, refusal) in &vector.calls {
+        assert_eq!(call.outcome(&decoded).refusal, *refusal, "{call:?} on {name}");
+    }
+}
+
+/// A whole row's run is the row's levels.
+fn runs_agree(sheet: &Sheet, decoded: &Result<Sheet, u32>) {
+    let (first, last) = (sheet.x_lines[0], sheet.last_x());
+    for y in sheet.y_lines[0]..=sheet.last_y() {
+        let levels = (first..=last).map(|x| readings(sheet, x, y)[0] as i32).collect();
+        let run = Call::FillRun { x: first, y, count: (last - first) as usize + 1 };
+        assert_eq!(run.outcome(decoded).written, Written::Levels(levels));
+    }
+}
