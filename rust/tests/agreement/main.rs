@@ -24,6 +24,7 @@ mod sheet;
 mod tally;
 mod trust;
 mod vectors;
+mod watch;
 mod worst;
 mod wrapped;
 
@@ -49,6 +50,7 @@ fn main() -> ExitCode {
         seconds()
     );
 
+    watch::start();
     let mut bench = Bench::new(options.seed);
     far::run(&mut bench.tally);
     round::vectors(&mut bench, &vectors);

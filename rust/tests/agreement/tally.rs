@@ -2,6 +2,7 @@
 
 use crate::call::{Call, Outcome, Written, NAMES};
 use crate::sheet::Sheet;
+use crate::watch;
 
 /// Fewer than this many sheets or calls compared is a failure.
 const LEAST_SHEETS: u64 = 2_000;
@@ -31,6 +32,7 @@ impl Tally {
     }
 
     pub fn count_call(&mut self, call: &Call, outcome: &Outcome, wrapped: bool) {
+        watch::call_ended();
         self.calls[call.index()][outcome.refusal as usize] += 1;
         self.wrapped += u64::from(wrapped);
         match &outcome.written {
