@@ -69,7 +69,7 @@ pub record FillRun (s : List ℕ) (x y : ℕ) (row : List ℤ) (n : ℕ) (row′
 pub record NodeOffset (s : List ℕ) (i j k : ℕ) : Type 0 where
   pub answer : k ≡ lookedUp s i j .start
 
--- `lvs_read` on the array gives n and leaves array′: the number and the values of a reading
+-- `lvs_read` on a lent array of floats gives n and leaves array′: the number and the values of a reading, these in the first places
 pub record ReadInto (s : List ℕ) (x y kind : ℕ) (array : List Float) (n : ℕ) (array′ : List Float) : Type 0 where
   pub reading : Answer
   pub isRead : Read s x y kind reading

@@ -81,7 +81,7 @@ impl Tally {
         let refused: u64 = self.sheets[1..].iter().sum();
         println!("sheets: {} accepted, {refused} refused", self.sheets[0]);
         let by_number =
-            |counts: &[u64]| counts.iter().map(|n| format!("{n:>9}")).collect::<String>();
+            |counts: &[u64]| counts.iter().map(|n| format!(" {n:>8}")).collect::<String>();
         let numbers: Vec<u64> = (0..=REFUSALS as u64).collect();
         println!("{:<13}{:>9}{}", "by refusal", "all", by_number(&numbers));
         println!("{:<13}{:>9}{}", "sheets", self.sheets[0] + refused, by_number(&self.sheets));
