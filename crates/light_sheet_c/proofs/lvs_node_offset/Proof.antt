@@ -1,7 +1,6 @@
 -- `light_sheet_c::lvs_node_offset` meets its contract. Assumes nothing.
-use mathlib.Core.Path.{_≡_, refl, sym, _∙_, ap}
+use mathlib.Core.Path.{refl, sym, _∙_}
 use borrow.Author.Needs.{needs}
-use Rattle.sheet.specs.Calls.{Span}
 use Rattle.sheet.proofs.Chains.{lookup-held}
 use Rattle.nodes.proofs.Answers.{looked-none, looked-found}
 use Rattle.light_sheet_c.proofs.lvs_node_offset.Statement.{statement}
