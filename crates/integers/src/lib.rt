@@ -84,5 +84,10 @@ fn nearest(q: i64, rest: i64, d: i64) -> i64
     requires { ⌜ (q within (2 ^ 62)) × Denominates d × (pos 0 ≤ℤ rest) × (rest <ℤ d) ⌝ }
     ensures { λ r. ⌜ r ≡ round (q *ℤ d +ℤ rest) (natAbs d) ⌝ }
 {
-    if 2 * rest < d { q } else { q + 1 }
+    // as unsigned numbers, so that the comparison's carry is what is added
+    if 2 * (rest as u64) < d as u64 {
+        q
+    } else {
+        q + 1
+    }
 }
