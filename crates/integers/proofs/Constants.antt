@@ -46,7 +46,7 @@ quarter-positive {d = negsuc d} h = absurd (h .positive .lt)
 -- ---- of a denominator that is prepared
 
 module _ {k : Denominator} (p : Prepared k) where
-  positive : 0 < natAbs (k .value)
+  pub positive : 0 < natAbs (k .value)
   positive = above (p .denominator .positive)
     where
       above : {d : ℤ} → pos 0 <ℤ d → 0 < natAbs d

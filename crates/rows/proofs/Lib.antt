@@ -2,3 +2,4 @@ pub mod Horner
 pub mod RowBounds
 pub mod Denominators
 pub mod Heights
+pub mod Rises

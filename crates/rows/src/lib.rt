@@ -8,6 +8,7 @@ ghost use Rattle.readings.specs.Bounds.{largest, size};
 ghost use Rattle.corners.specs.Held.{Side, cell};
 ghost use Rattle.turnings.specs.Doubled.{halves, Sized};
 ghost use Rattle.rows.specs.Row.{down, alongRow, atOffset, cubesOf, reach};
+ghost use Rattle.rows.specs.Steps.{differences, stepped, Steps};
 use corners::lengths::cube;
 use corners::lengths::length;
 use corners::lengths::square;
@@ -32,6 +33,29 @@ pub fn at_offset(row: [i64; 4], offset: usize) -> i64
 {
     let a = length(offset);
     row[0] + a * (row[1] + a * (row[2] + a * row[3]))
+}
+
+// Its value at an offset and the first, second and third difference there: from them the values to the right follow by additions.
+pub fn differences(row: [i64; 4], offset: usize) -> [i64; 4]
+    requires { ⌜ (reach row ≤ 2 ^ 62) × (offset ≤ 64) ⌝ }
+    ensures { λ r. ⌜ r ≡ differences row offset ⌝ }
+{
+    let a = length(offset);
+    let next = a + 1;
+    [
+        at_offset(row, offset),
+        row[1] + row[2] * (a + next) + row[3] * (3 * a * next + 1),
+        2 * row[2] + 6 * row[3] * next,
+        6 * row[3],
+    ]
+}
+
+// The same an offset further on.
+pub fn stepped(z: [i64; 4]) -> [i64; 4]
+    requires { ⌜ Steps z ⌝ }
+    ensures { λ r. ⌜ r ≡ stepped z ⌝ }
+{
+    [z[0] + z[1], z[1] + z[2], z[2] + z[3], z[3]]
 }
 
 // 2 W³ H³

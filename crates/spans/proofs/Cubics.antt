@@ -1,8 +1,8 @@
 -- The cubic along a row, at the offsets of a span: it gives the levels, and they are as small as the code asks. Assumes nothing.
 use Prim.Native.Nat.{ℕ, _+_, _*_, _-_, _^_, _≤_, _<_, min}
-use mathlib.Core.Path.{_≡_, sym, _∙_, ap, subst⁻¹}
+use mathlib.Core.Path.{_≡_, refl, sym, _∙_, ap, subst⁻¹}
 use mathlib.Core.List.{List}
-use native.Mathlib.Nat.{le-of-lt}
+use native.Mathlib.Nat.{le-of-lt, add-assoc}
 use native.Mathlib.Omega.{arith}
 use lib.IntN.{ℤ, pos, natAbs}
 use Rattle.integers.specs.Round.{round}
@@ -10,6 +10,7 @@ use Rattle.integers.specs.Constants.{constants, Prepared}
 use Rattle.integers.specs.declared.Denominator.{Denominator}
 use Rattle.integers.proofs.Bounds.{is-within}
 use Rattle.integers.proofs.Prepared.{prepared}
+use Rattle.sibson.specs.Piece.{Piece}
 use Rattle.sibson.specs.Element.{CornerNumbers, sibson}
 use Rattle.readings.specs.Bounds.{largest, AllWithin, listed}
 use Rattle.readings.specs.Reading.{level}
@@ -37,34 +38,36 @@ level-below n all p i = bounds .levels (cellOf p) n all (pixelPiece p) (pointOf 
     (subst⁻¹ (λ w. p .a ≤ w) (side-is (i .width)) (i .across)) (subst⁻¹ (λ h. p .b ≤ h) (side-is (i .height)) (i .down)))
 
 -- 2 W³ H³
-abbrev denominatorOf : Pixel → ℤ
+abbrev pub denominatorOf : Pixel → ℤ
 denominatorOf p = pos (2 * cubesOf (cellOf p) .number)
 
--- what the code works out for a span of count pixels at most: the piece's coefficients, its cubic along the row, the denominator, and how many pixels they are
-pub record Worked (n : CornerNumbers) (p : Pixel) (count : ℕ) (k cubic : List ℤ) (d : Denominator) (size : ℕ) : Type 0 where
-  pub coefficients : k ≡ listed (sibson n (pixelPiece p))
-  pub along : cubic ≡ alongRow (cellOf p) (halves k) (p .b)
-  pub divisor : d ≡ constants (denominatorOf p)
-  pub pixels : size ≡ min count (endOf (pixelPiece p) p - p .a)
+-- a span of a row: size pixels, from the one `from` to the right of p on, all of the piece q, whose cubic along the row is known
+pub record Span (n : CornerNumbers) (p : Pixel) (count : ℕ) (q : Piece) (cubic : List ℤ) (from size : ℕ) : Type 0 where
+  pub along : cubic ≡ alongRow (cellOf p) (sibson n q) (p .b)
+  pub fits : from + size ≤ count
+  pub pieces : (k : ℕ) → k < size → pixelPiece (toRight p (from + k)) ≡ q
 
-module _ {n : CornerNumbers} {p : Pixel} {count : ℕ} {k cubic : List ℤ} {d : Denominator} {size : ℕ}
-    (all : AllWithin largest n) (fit : FitsCell p count) (w : Worked n p count k cubic d size) where
-  in-span : {j : ℕ} → j < size → (j < count) × (p .a + j < endOf (pixelPiece p) p)
-  in-span l = omega (arith, w .pixels)
+module _ {n : CornerNumbers} {p : Pixel} {count : ℕ} {q : Piece} {cubic : List ℤ} {d : Denominator} {from size : ℕ}
+    (all : AllWithin largest n) (fit : FitsCell p count) (divisor : d ≡ constants (denominatorOf p)) (s : Span n p count q cubic from size) where
+  -- from the doubled coefficients
+  doubled : cubic ≡ alongRow (cellOf p) (halves (listed (sibson n q))) (p .b)
+  doubled = s .along ∙ ap (λ f. alongRow (cellOf p) f (p .b)) (sym (joined .back n q))
 
-  -- the cubic is the piece's, and the pixels before the span's end are of that piece
-  pub levels-are : (j : ℕ) → j < size → round (atOffset cubic (p .a + j)) (natAbs (d .value)) ≡ cellLevel n (toRight p j)
+  -- the cubic gives the levels
+  pub levels-are : (k : ℕ) → k < size → round (atOffset cubic (p .a + from + k)) (natAbs (d .value)) ≡ cellLevel n (toRight p (from + k))
   unfolding cellLevel halves constants
-  levels-are j l =
-      (λ t. round (atOffset (w .along t) (p .a + j)) (natAbs (w .divisor t .value)))
-      ∙ sym (rows .levels (cellOf p) (halves k) (p .a + j) (p .b))
-      ∙ ap (λ f. level (cellOf p) f (pointOf (toRight p j))) (ap halves (w .coefficients) ∙ joined .back n (pixelPiece p))
-      ∙ ap (λ q. level (cellOf p) (sibson n q) (pointOf (toRight p j))) (sym (span-laws .same p j (inside-right p fit (in-span l .0)) (in-span l .1)))
+  levels-are k l =
+      (λ t. round (atOffset (doubled t) (add-assoc (p .a) from k t)) (natAbs (divisor t .value)))
+      ∙ sym (rows .levels (cellOf p) (halves (listed (sibson n q))) (p .a + (from + k)) (p .b))
+      ∙ ap (λ f. level (cellOf p) f (pointOf (toRight p (from + k)))) (joined .back n q)
+      ∙ ap (λ q. level (cellOf p) (sibson n q) (pointOf (toRight p (from + k)))) (sym (s .pieces k l))
 
-  pub levels-fit : Levels cubic (p .a) size d
-  levels-fit j l = let i = fit .inside in record {
-    reached = subst⁻¹ (λ c. reach c ≤ 2 ^ 62) (w .along) (row-reach (piece-sized n all (pixelPiece p) (w .coefficients)) (i .width) (i .height) (i .down));
-    near = omega (arith, in-span l .0, fit .fits, i .width .most);
-    prepared = subst⁻¹ (λ d. Prepared d) (w .divisor) (prepared (denominates (i .width) (i .height)));
-    small = is-within _ (subst⁻¹ (λ z. natAbs z ≤ 2 ^ 20) (levels-are j l) (le-of-lt (level-below n all (toRight p j) (inside-right p fit (in-span l .0)))));
+  pub levels-fit : Levels cubic (p .a + from) size d
+  levels-fit k l = let i = fit .inside in let h = inside-right p {k = from + k} fit (omega (arith, s .fits)) in record {
+    reached = subst⁻¹ (λ c. reach c ≤ 2 ^ 62) doubled (row-reach (piece-sized n all q refl) (i .width) (i .height) (i .down));
+    near = omega (arith, s .fits, fit .fits, i .width .most);
+    level = record {
+      prepared = subst⁻¹ (λ d. Prepared d) divisor (prepared (denominates (i .width) (i .height)));
+      small = is-within _ (subst⁻¹ (λ z. natAbs z ≤ 2 ^ 20) (levels-are k l) (le-of-lt (level-below n all (toRight p (from + k)) h)));
+    };
   }

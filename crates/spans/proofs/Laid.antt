@@ -26,6 +26,12 @@ unfolding laid
 laid-join f at n zero row = ap (λ k. laid f at k row) (add-zero n)
 laid-join f at n (suc m) row = ap (λ k. laid f at k row) (add-suc n m) ∙ (λ t. set (laid-join f at n m row t) (sym (add-assoc at n m) t) (f (n + m)))
 
+-- m more places behind n, by a function that goes on where the first stops
+pub laid-more : (f g : ℕ → ℤ) (at n m : ℕ) (row : List ℤ) {now next : List ℤ} → now ≡ laid f at n row → next ≡ laid g (at + n) m now
+    → ((k : ℕ) → k < m → g k ≡ f (n + k)) → next ≡ laid f at (n + m) row
+laid-more f g at n m row e h same =
+    h ∙ laid-same g (λ k. f (n + k)) (at + n) m _ same ∙ (λ t. laid (λ k. f (n + k)) (at + n) m (e t)) ∙ sym (laid-join f at n m row)
+
 -- ---- for a loop: no place yet, one more, and all
 
 module _ (f : ℕ → ℤ) (at : ℕ) (row : List ℤ) where

@@ -1,2 +1,3 @@
 pub mod Span
 pub mod Needs
+pub mod Ends

@@ -15,12 +15,16 @@ pub record FitsCell (p : Pixel) (count : ℕ) : Type 0 where
   pub inside : Inside p
   pub fits : p .a + count ≤ suc (p .width)
 
--- at an offset the cubic stays within 64 bits, and the level within 32
+-- a numerator whose level has no more than 20 bits
+pub record Small (n : ℤ) (d : Denominator) : Type 0 where
+  pub prepared : Prepared d
+  pub small : round n (natAbs (d .value)) within (2 ^ 20)
+
+-- at an offset the cubic stays within 64 bits, and the level within 20
 pub record Level (cubic : List ℤ) (offset : ℕ) (d : Denominator) : Type 0 where
   pub reached : reach cubic ≤ 2 ^ 62
   pub near : offset ≤ 64
-  pub prepared : Prepared d
-  pub small : round (atOffset cubic offset) (natAbs (d .value)) within (2 ^ 20)
+  pub level : Small (atOffset cubic offset) d
 
 -- and so at count offsets
 abbrev pub Levels : List ℤ → ℕ → ℕ → Denominator → Type 0

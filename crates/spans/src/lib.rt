@@ -2,70 +2,108 @@
 pub mod theorems;
 
 ghost use mathlib.Core.Path.{_≡_};
-ghost use Prim.Native.Nat.{_+_, _-_, _^_, _≤_, _<_, min};
+ghost use Prim.Native.Nat.{_+_, _-_, _/_, _^_, _≤_, _<_, min};
 ghost use lib.IntN.{natAbs};
 ghost use lib.ListN.{length};
 ghost use Rattle.integers.specs.Round.{round};
 ghost use Rattle.readings.specs.Bounds.{largest, AllWithin};
+ghost use Rattle.sibson.specs.Element.{sibson};
 ghost use Rattle.corners.specs.Held.{corners};
-ghost use Rattle.rows.specs.Row.{atOffset};
+ghost use Rattle.rows.specs.Row.{alongRow, atOffset};
 ghost use Rattle.pieces.specs.Parts as parts;
-ghost use Rattle.evaluation.specs.Pixels.{Inside};
-ghost use Rattle.spans.specs.Span.{toRight, pixelPiece, cellLevel, ceiling, endOf, laid};
-ghost use Rattle.spans.specs.Needs.{FitsCell, Level, Levels};
+ghost use Rattle.evaluation.specs.Pixels.{cellOf, Inside};
+ghost use Rattle.spans.specs.Span.{toRight, cellLevel, ceiling, laid};
+ghost use Rattle.spans.specs.Ends.{endsOf};
+ghost use Rattle.spans.specs.Needs.{FitsCell, Small, Levels};
 use evaluation::Pixel;
 use integers::Denominator;
 use pieces::Piece;
 
-// Fills `count` places of the row from index `at` on: with the level at a pixel of a cell, and those to its right in the same cell.
+// Where a row of pixels leaves the left piece of a cell, and the one between left and right: the first offsets beyond them; and which piece that one is.
+struct Ends {
+    left: usize,
+    middle: usize,
+    piece: Piece,
+}
+
+// Fills `count` places of the row from index `at` on: with the level at a pixel of a cell, and those to its right in the same cell, span by span.
 pub fn fill_cell(row: &mut [i32], at: usize, count: usize, n: [[i64; 3]; 4], first: Pixel)
     requires { ⌜ AllWithin largest (corners n) × FitsCell first count × (at + count ≤ length (now row)) ⌝ }
     ensures { λ _. ⌜ now (row .exit) ≡ laid (λ k. cellLevel (corners n) (toRight first k)) at count (now (row .entry)) ⌝ }
 {
-    let mut done: usize = 0;
-    while done < count {
-        let p = Pixel {
-            a: first.a + done,
-            b: first.b,
-            width: first.width,
-            height: first.height,
-        };
-        done += fill_span(row, at + done, count - done, n, p);
-    }
-}
-
-// Fills the places of one span, of `count` at most, and answers how many they are. Coefficients and denominator are worked out once.
-fn fill_span(row: &mut [i32], at: usize, count: usize, n: [[i64; 3]; 4], first: Pixel) -> usize
-    requires { ⌜ AllWithin largest (corners n) × FitsCell first count × (at + count ≤ length (now row)) ⌝ }
-    ensures answer { λ r. ⌜ r ≡ min count (endOf (pixelPiece first) first - first .a) ⌝ }
-    ensures row { λ r. ⌜ now (row .exit) ≡ laid (λ k. cellLevel (corners n) (toRight first k)) at r (now (row .entry)) ⌝ }
-{
-    let piece = places::piece(first);
-    let size = least(count, span_end(piece, first) - first.a);
-    let k = pieces::coefficients(n, piece);
-    let cubic = rows::along_row(k, first.b, first.width, first.height);
     let d = Denominator::new(rows::denominator(first.width, first.height));
-    fill_levels(row, at, size, cubic, first.a, d);
-    size
+    let ends = span_ends(first);
+    let left = before(ends.left, first.a, count);
+    let both = before(ends.middle, first.a, count);
+    let middle = ends.piece;
+    let a = first.a;
+    fill_levels(row, at, left, cubic(n, Piece::Left, first), a, d);
+    fill_levels(
+        row,
+        at + left,
+        both - left,
+        cubic(n, middle, first),
+        a + left,
+        d,
+    );
+    fill_levels(
+        row,
+        at + both,
+        count - both,
+        cubic(n, Piece::Right, first),
+        a + both,
+        d,
+    );
 }
 
-// The first offset beyond a piece in the pixel's row.
-fn span_end(piece: Piece, p: Pixel) -> usize
+// One division gives both ends: the diagonals cross the row as far from the right edge as from the left.
+fn span_ends(p: Pixel) -> Ends
     requires { ⌜ Inside p ⌝ }
-    ensures { λ r. ⌜ r ≡ endOf (parts.pieceOf piece) p ⌝ }
+    ensures { λ r. ⌜ r ≡ endsOf p ⌝ }
 {
-    // s and 1 − s, times the cell's area
+    // s times the cell's area, and that over the height
     let y = p.b * p.width;
-    let rest = p.width * p.height - y;
-    match piece {
-        Piece::Top => rest / p.height + 1,
-        Piece::Right => p.width + 1,
-        Piece::Bottom => ceiling(y, p.height),
-        Piece::Left => ceiling(least(y, rest), p.height),
+    let down = y / p.height;
+    let up = ceiling(y, p.height, down);
+    if 2 * p.b <= p.height {
+        return Ends {
+            left: up,
+            middle: p.width - up + 1,
+            piece: Piece::Top,
+        };
+    }
+    Ends {
+        left: p.width - down,
+        middle: up,
+        piece: Piece::Bottom,
     }
 }
 
-// Fills `count` places of the row from index `at` on with the levels of a cubic along the row, from an offset on.
+// n / d rounded up, from what it is rounded down.
+fn ceiling(n: usize, d: usize, floor: usize) -> usize
+    requires { ⌜ (0 < d) × (n + d < 2 ^ 64) × (floor ≡ n / d) ⌝ }
+    ensures { λ r. ⌜ r ≡ ceiling n d ⌝ }
+{
+    if floor * d == n { floor } else { floor + 1 }
+}
+
+// How many of `count` pixels, from offset a on, lie before an end.
+fn before(end: usize, a: usize, count: usize) -> usize
+    ensures { λ r. ⌜ r ≡ min count (end - a) ⌝ }
+{
+    if end < a { 0 } else { least(count, end - a) }
+}
+
+// The cubic of a piece along the pixel's row.
+fn cubic(n: [[i64; 3]; 4], piece: Piece, p: Pixel) -> [i64; 4]
+    requires { ⌜ AllWithin largest (corners n) × Inside p ⌝ }
+    ensures { λ r. ⌜ r ≡ alongRow (cellOf p) (sibson (corners n) (parts.pieceOf piece)) (p .b) ⌝ }
+{
+    rows::along_row(pieces::coefficients(n, piece), p.b, p.width, p.height)
+}
+
+// Fills `count` places of the row from index `at` on with the levels of a cubic along the row, from an offset on. Three additions lead from a pixel's value to
+// the next one's.
 fn fill_levels(
     row: &mut [i32],
     at: usize,
@@ -77,27 +115,24 @@ fn fill_levels(
     requires { ⌜ Levels cubic offset count d × (at + count ≤ length (now row)) ⌝ }
     ensures { λ _. ⌜ now (row .exit) ≡ laid (λ k. round (atOffset cubic (offset + k)) (natAbs (d .value))) at count (now (row .entry)) ⌝ }
 {
+    if count == 0 {
+        return;
+    }
+    let mut z = rows::differences(cubic, offset);
     let mut k: usize = 0;
     while k < count {
-        row[at + k] = level_at(cubic, offset + k, d);
+        row[at + k] = level(z[0], d);
+        z = rows::stepped(z);
         k += 1;
     }
 }
 
-// One level: the cubic at an offset, over the denominator.
-fn level_at(cubic: [i64; 4], offset: usize, d: Denominator) -> i32
-    requires { ⌜ Level cubic offset d ⌝ }
-    ensures { λ r. ⌜ r ≡ round (atOffset cubic offset) (natAbs (d .value)) ⌝ }
+// One level: a numerator over the denominator.
+fn level(n: i64, d: Denominator) -> i32
+    requires { ⌜ Small n d ⌝ }
+    ensures { λ r. ⌜ r ≡ round n (natAbs (d .value)) ⌝ }
 {
-    d.round(rows::at_offset(cubic, offset)) as i32
-}
-
-// n / d, rounded up.
-fn ceiling(n: usize, d: usize) -> usize
-    requires { ⌜ (0 < d) × (n + d < 2 ^ 64) ⌝ }
-    ensures { λ r. ⌜ r ≡ ceiling n d ⌝ }
-{
-    (n + d - 1) / d
+    d.round_small(n) as i32
 }
 
 // The smaller of two numbers.
