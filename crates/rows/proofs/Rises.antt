@@ -86,7 +86,7 @@ module _ (p : List ℤ) where
       pub may-step : Steps (differences p a)
       unfolding differences
       may-step = record {
-        value = at-offset-within p r u;
+        value = within-mono (at-offset-within p r u) (lit≤ tt);
         first = subst (λ z. z within (2 ^ 60)) (first-is a)
             (within-mono (within-+ (within-+ linear (within-* quadratic (within-+ here next)))
             (within-* leading (within-+ (within-* (within-* (within-self (pos 3)) here) next) (within-self (pos 1))))) (lit≤ tt));

@@ -37,7 +37,7 @@ pub fn at_offset(row: [i64; 4], offset: usize) -> i64
 
 // Its value at an offset and the first, second and third difference there: from them the values to the right follow by additions.
 pub fn differences(row: [i64; 4], offset: usize) -> [i64; 4]
-    requires { ⌜ (reach row ≤ 2 ^ 62) × (offset ≤ 64) ⌝ }
+    requires { ⌜ (offset ≤ 64) × (reach row ≤ 2 ^ 62) ⌝ }
     ensures { λ r. ⌜ r ≡ differences row offset ⌝ }
 {
     let a = length(offset);

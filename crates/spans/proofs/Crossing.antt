@@ -37,6 +37,10 @@ module _ (p : Pixel) (i : Inside p) where
   abbrev pub At : Piece → ℕ → Type 0
   At k a = Holds k (a * p .height) (p .b * p .width) (p .width * p .height)
 
+  -- s is at most 1
+  height-fits : p .b * p .width ≤ p .width * p .height
+  height-fits = omega (arith, mul-le-mul-right (p .width) (i .down), mul-comm (p .width) (p .height))
+
   pub in-left : {a : ℕ} → a < endOf left p → At left a
   unfolding endOf
   in-left l = omega (arith, below-ceiling (i .height .least) .0 l)
@@ -74,9 +78,6 @@ module _ (p : Pixel) (i : Inside p) where
   ]
 
   -- ---- both ends from one quotient: the diagonals mirror each other
-
-  height-fits : p .b * p .width ≤ p .width * p .height
-  height-fits = omega (arith, mul-le-mul-right (p .width) (i .down), mul-comm (p .width) (p .height))
 
   pub upper-ends : 2 * p .b ≤ p .height → (ceiling (p .b * p .width) (p .height) ≡ endOf left p) × (p .width - ceiling (p .b * p .width) (p .height) + 1 ≡ endOf top p)
   unfolding endOf

@@ -66,7 +66,7 @@ returns : tie.Need-returns Inv-loop μ-loop
 returns c = laid-all _ _ _ (search needs) (omega (arith, c .if1 .taken)) (laid-none _ _ _)
 
 differences-requires : tie.Need-differences-requires Inv-loop μ-loop
-differences-requires c κs = let l = c .before .pre .0 0 (omega (arith, c .if1 .left)) in (l .reached, omega (arith, l .near))
+differences-requires c κs = let l = c .before .pre .0 0 (omega (arith, c .if1 .left)) in (omega (arith, l .near), l .reached)
 
 level-requires : tie.Need-level-requires Inv-loop μ-loop
 level-requires c κs = let l = c .before in rw (value l .reads, value-is (start (l .before) .args .cubic) _ (held (l .before) .0)) (asked l .level)
