@@ -42,8 +42,9 @@ impl Denominator {
     {
         let scale = 137438953472 / d;
         let raised = d * scale;
+        let value = below_38_bits(d);
         Denominator {
-            value: d,
+            value: value,
             scale: scale,
             inverse: 4611686018427387904 / (raised / 4),
         }
@@ -77,6 +78,14 @@ impl Denominator {
             round(n, d)
         }
     }
+}
+
+// d itself, which has at most 38 bits. The compiler sees it here, and so makes one test of 0 <= rest && rest < d.
+fn below_38_bits(d: i64) -> i64
+    requires { ⌜ Denominates d ⌝ }
+    ensures { λ r. ⌜ r ≡ d ⌝ }
+{
+    (d as u64 % 274877906944) as i64
 }
 
 // q + rest / d rounded by the rule, for a rest from 0 to below d.
