@@ -1,6 +1,6 @@
 -- What a caller of `Denominator::new` has: the result is prepared, and a numerator whose quotient is within 2²⁴ is in its reach. Assumes nothing.
 use mathlib.Core.Path.{refl, subst}
-use Prim.Native.Nat.{ℕ, _*_, _^_, _<_}
+use Prim.Native.Nat.{ℕ, _*_, _^_}
 use native.Mathlib.Omega.{arith}
 use lib.IntN.{ℤ, pos, natAbs, _-ℤ_, _*ℤ_}
 use Rattle.integers.specs.Within.{_within_}

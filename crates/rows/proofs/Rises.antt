@@ -2,11 +2,11 @@
 -- further on. Assumes nothing.
 use mathlib.Core.Path.{_≡_, sym, _∙_, subst}
 use mathlib.Core.List.{List, [], _∷_}
-use Prim.Native.Nat.{ℕ, _+_, _*_, _^_, _≤_}
+use Prim.Native.Nat.{ℕ, _+_, _^_, _≤_}
 use native.Mathlib.Omega.{arith}
 use lib.Dec.{lit≤}
 use lib.ListN.{getD}
-use lib.IntN.{ℤ, pos, natAbs, _+ℤ_, _*ℤ_}
+use lib.IntN.{ℤ, pos, _+ℤ_, _*ℤ_}
 use Rattle.integers.specs.Within.{_within_}
 use Rattle.integers.proofs.Bounds.{is-within, within-self, within-mono, within-+, within-*}
 use Rattle.integers.proofs.Polynomial.{Expr, #_, _⊕_, _⊗_, _⊝_}

@@ -38,7 +38,7 @@ module _ (p : Pixel) (i : Inside p) where
   At k a = Holds k (a * p .height) (p .b * p .width) (p .width * p .height)
 
   -- s is at most 1
-  height-fits : p .b * p .width ≤ p .width * p .height
+  pub height-fits : p .b * p .width ≤ p .width * p .height
   height-fits = omega (arith, mul-le-mul-right (p .width) (i .down), mul-comm (p .width) (p .height))
 
   pub in-left : {a : ℕ} → a < endOf left p → At left a

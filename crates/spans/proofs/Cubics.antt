@@ -1,5 +1,5 @@
 -- The cubic along a row, at the offsets of a span: it gives the levels, and they are as small as the code asks. Assumes nothing.
-use Prim.Native.Nat.{ℕ, _+_, _*_, _-_, _^_, _≤_, _<_, min}
+use Prim.Native.Nat.{ℕ, _+_, _*_, _^_, _≤_, _<_}
 use mathlib.Core.Path.{_≡_, refl, sym, _∙_, ap, subst⁻¹}
 use mathlib.Core.List.{List}
 use native.Mathlib.Nat.{le-of-lt, add-assoc}
@@ -26,10 +26,9 @@ use Rattle.rows.proofs.Heights.{rows}
 use Rattle.rows.proofs.RowBounds.{row-reach}
 use Rattle.evaluation.specs.Pixels.{cellOf, pointOf, Inside}
 use Rattle.evaluation.specs.declared.Pixel.{Pixel}
-use Rattle.spans.specs.Span.{toRight, pixelPiece, cellLevel, endOf}
+use Rattle.spans.specs.Span.{toRight, pixelPiece, cellLevel}
 use Rattle.spans.specs.Needs.{FitsCell, Levels}
 use Rattle.spans.proofs.InRow.{inside-right}
-use Rattle.spans.proofs.Laws.{span-laws}
 
 -- a level lies strictly between −2²⁰ and 2²⁰
 level-below : (n : CornerNumbers) → AllWithin largest n → (p : Pixel) → Inside p → natAbs (cellLevel n p) < 2 ^ 20

@@ -1,6 +1,6 @@
 -- How the pixels of a row, from one pixel of a cell on, part into the three spans: the first `one` of them are left, those up to `two` of the middle piece, the
 -- others right. Assumes nothing.
-use Prim.Native.Nat.{ℕ, _+_, _-_, _≤_, _<_, min}
+use Prim.Native.Nat.{ℕ, _-_, _≤_, _<_, min}
 use mathlib.Core.Path.{_≡_, sym}
 use native.Mathlib.Omega.{arith}
 use Rattle.sibson.specs.Piece.{left, right}

@@ -1,5 +1,5 @@
 -- `spans::fill_cell` meets its contract. Assumes nothing.
-use Prim.Native.Nat.{ℕ, _+_, _-_, _≤_, _<_, min}
+use Prim.Native.Nat.{ℕ, _+_, _-_, _≤_, min}
 use mathlib.Core.Path.{_≡_, sym, _∙_, ap, subst}
 use mathlib.Core.List.{List}
 use native.Mathlib.Nat.{add-zero, zero-add}
@@ -14,17 +14,17 @@ use Rattle.integers.proofs.Operand.{Operand, returned}
 use Rattle.sibson.specs.Piece.{left, right}
 use Rattle.sibson.specs.Element.{sibson}
 use Rattle.corners.specs.Held.{corners}
-use Rattle.pieces.specs.Parts.{pieceOf, named}
+use Rattle.pieces.specs.Parts.{pieceOf}
 use Rattle.pieces.proofs.Names.{piece-back}
 use Rattle.rows.specs.Row.{alongRow, atOffset}
 use Rattle.rows.proofs.Denominators.{denominates}
 use Rattle.evaluation.specs.Pixels.{cellOf}
 use Rattle.evaluation.specs.declared.Pixel.{Pixel}
-use Rattle.spans.specs.Span.{toRight, cellLevel, laid, endOf}
+use Rattle.spans.specs.Span.{toRight, cellLevel, laid}
 use Rattle.spans.specs.Ends.{middleOf, endsOf}
 use Rattle.spans.specs.Needs.{Levels}
 use Rattle.spans.proofs.Cubics.{Span, denominatorOf, levels-are, levels-fit}
-use Rattle.spans.proofs.Laid.{laid-length, laid-same, laid-more, laid-all}
+use Rattle.spans.proofs.Laid.{laid-length, laid-same, laid-more}
 use Rattle.spans.proofs.Parted.{Parted, ordered, left-piece, middle-piece, right-piece}
 use Rattle.spans.proofs.fill_cell.Statement.{statement}
 use Rattle.spans.proofs.fill_cell.Tie as tie

@@ -1,20 +1,19 @@
 -- `spans::span_ends` meets its contract: no product exceeds 64 · 64, and the two ends are as far from the right edge as from the left. Assumes nothing.
 use Prim.Native.Nat.{_+_, _*_, _-_, _/_, _≤_}
 use mathlib.Core.Path.{refl, sym, _∙_, ap}
-use native.Mathlib.Nat.{mul-le-mul, mul-comm}
+use native.Mathlib.Nat.{mul-le-mul}
 use native.Mathlib.Omega.{arith}
 use borrow.Author.Needs.{needs}
 use Rattle.pieces.specs.Parts.{named}
 use Rattle.spans.specs.Span.{endOf, ceiling}
 use Rattle.spans.specs.Ends.{endsOf}
 use Rattle.spans.proofs.Divisions.{floor-most, ceiling-most}
-use Rattle.spans.proofs.Crossing.{upper-middle, lower-middle, upper-ends, lower-ends}
+use Rattle.spans.proofs.Crossing.{height-fits, upper-middle, lower-middle, upper-ends, lower-ends}
 use Rattle.spans.proofs.span_ends.Statement.{statement}
 use Rattle.spans.proofs.span_ends.Tie as tie
 
 products : (s : tie.Start) → let p = s .args .p in (p .b * p .width ≤ p .width * p .height) × (p .width * p .height ≤ 4096)
-products s = let p = s .args .p in let i = s .pre in
-    (rw (mul-comm (p .b) (p .width)) (mul-le-mul (omega arith) (i .down)), mul-le-mul (i .width .most) (i .height .most))
+products s = (height-fits (s .args .p) (s .pre), mul-le-mul (s .pre .width .most) (s .pre .height .most))
 
 mul-y : tie.Need-mul-y
 mul-y c = record { fits = omega (arith, products (c .before)) }
