@@ -1,6 +1,7 @@
 -- Signed numbers of 16 bits and their bits. Assumes nothing.
-use Prim.Native.Nat.{ℕ, suc, _+_, _-_, _≤_, _<_}
+use Prim.Native.Nat.{ℕ, suc, _+_, _-_, _%_, _≤_, _<_}
 use mathlib.Core.Path.{_≡_, refl, ap}
+use native.Mathlib.Decide.{decLe}
 use native.Mathlib.Omega.{arith}
 use lib.IntN.{ℤ, pos, negsuc, natAbs, _+ℤ_, _-ℤ_}
 use lib.Dec.{ltb, leb→le, ltb→lt}
@@ -36,13 +37,12 @@ natural (negsuc n) w h = absurd (h .le)
 
 -- ---- what `signed_word` gives: bits from 32,768 on have 65,536 taken away
 
-pub signed-low : (w : ℕ) → w < 32768 → pos w ≡ signed w
+pub signed-raised : (w : ℕ) → w < 65536 → pos ((w + 32768) % 65536) -ℤ pos 32768 ≡ signed w
 unfolding signed
-signed-low w h = rw (lt-ltb w 32768 h) refl
-
-pub signed-high : (w : ℕ) → 32768 ≤ w → w < 65536 → pos w -ℤ pos 65536 ≡ signed w
-unfolding signed
-signed-high w h k = rw (le-ltb w 32768 h) (subℕ-neg w 65536 (65535 - w) (omega arith))
+signed-raised w k = elim (decLe 32768 w) [
+  | yes h ↦ rw (le-ltb w 32768 h) (subℕ-neg ((w + 32768) % 65536) 32768 (65535 - w) (omega arith))
+  | no h ↦ let l : w < 32768 = omega arith in rw (lt-ltb w 32768 l) (subℕ-pos ((w + 32768) % 65536) 32768 w (omega arith))
+]
 
 -- ---- they are inverse
 

@@ -20,12 +20,9 @@ pub fn signed_word(s: &[u8], at: usize) -> i64
     requires { ⌜ at + 1 < length (now s) ⌝ }
     ensures { λ r. ⌜ r ≡ signed (wordAt (now (s .entry)) at) ⌝ }
 {
-    let bits = word(s, at);
-    if bits < 32768 {
-        bits as i64
-    } else {
-        bits as i64 - 65536
-    }
+    // up by 32,768, around at 65,536, and down again: the compiler makes one signed load of it
+    let raised = (word(s, at) + 32768) % 65536;
+    raised as i64 - 32768
 }
 
 // Writes a number of 16 bits to the two bytes at index `at`.
