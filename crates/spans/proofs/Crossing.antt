@@ -2,28 +2,36 @@
 -- right. Assumes nothing.
 use Prim.Native.Nat.{ℕ, suc, _+_, _*_, _-_, _/_, _≤_, _<_}
 use mathlib.Core.Path.{_≡_, refl, _∙_, ap, subst⁻¹}
+use mathlib.Core.Bool.{true, false, cond}
 use native.Mathlib.Decide.{decLe}
 use native.Mathlib.Nat.{le-refl, suc-mul, mul-comm, mul-assoc, mul-le-mul-right}
 use native.Mathlib.Numerals.{add-one}
 use native.Mathlib.Omega.{arith}
-use lib.Dec.{leb, leb→le, nleb→lt}
-use Rattle.integers.proofs.Order.{cond-ind}
+use borrow.Author.Tests.{le-leb, lt-leb}
 use Rattle.sibson.specs.Piece.{Piece, top, right, bottom, left}
 use Rattle.evaluation.specs.Pixels.{Inside}
 use Rattle.evaluation.specs.declared.Pixel.{Pixel}
 use Rattle.spans.specs.Span.{ceiling, endOf}
-use Rattle.spans.specs.Ends.{middleOf}
+use Rattle.spans.specs.Ends.{upperHalf, middleOf}
 use Rattle.spans.proofs.Divisions.{below-floor, below-ceiling, from-floor, from-ceiling, floor-mirrored, ceiling-mirrored}
 use Rattle.spans.proofs.Products.{Holds}
 
 module _ (p : Pixel) where
-  pub upper-middle : 2 * p .b ≤ p .height → middleOf p ≡ top
-  unfolding middleOf
-  upper-middle h = cond-ind (leb (2 * p .b) (p .height)) top bottom (λ k. k ≡ top) (λ t. refl) (λ t. absurd (omega (arith, nleb→lt (2 * p .b) (p .height) t)))
+  pub upper-is : 2 * p .b ≤ p .height → upperHalf p ≡ true
+  unfolding upperHalf
+  upper-is h = le-leb (2 * p .b) (p .height) h
 
-  pub lower-middle : p .height < 2 * p .b → middleOf p ≡ bottom
+  pub lower-is : p .height < 2 * p .b → upperHalf p ≡ false
+  unfolding upperHalf
+  lower-is h = lt-leb (2 * p .b) (p .height) h
+
+  pub upper-middle : upperHalf p ≡ true → middleOf p ≡ top
   unfolding middleOf
-  lower-middle h = cond-ind (leb (2 * p .b) (p .height)) top bottom (λ k. k ≡ bottom) (λ t. absurd (omega (arith, leb→le (2 * p .b) (p .height) t))) (λ t. refl)
+  upper-middle e = ap (λ t. cond t top bottom) e
+
+  pub lower-middle : upperHalf p ≡ false → middleOf p ≡ bottom
+  unfolding middleOf
+  lower-middle e = ap (λ t. cond t top bottom) e
 
   -- in the upper half s is at most one half, and in the lower it is more
   pub upper-half : 2 * p .b ≤ p .height → 2 * (p .b * p .width) ≤ p .width * p .height
@@ -66,8 +74,8 @@ module _ (p : Pixel) (i : Inside p) where
 
   pub crossed : Crossed (middleOf p)
   crossed = elim (decLe (2 * p .b) (p .height)) [
-    | yes h ↦ subst⁻¹ Crossed (upper-middle p h) (upper h)
-    | no h ↦ let l : p .height < 2 * p .b = omega arith in subst⁻¹ Crossed (lower-middle p l) (lower l)
+    | yes h ↦ subst⁻¹ Crossed (upper-middle p (upper-is p h)) (upper h)
+    | no h ↦ let l : p .height < 2 * p .b = omega arith in subst⁻¹ Crossed (lower-middle p (lower-is p l)) (lower l)
   ]
 
   -- the middle piece ends no earlier than the left one: no offset is left of the diagonal and right of it

@@ -13,17 +13,18 @@ ghost use Rattle.rows.specs.Row.{alongRow, atOffset};
 ghost use Rattle.pieces.specs.Parts as parts;
 ghost use Rattle.evaluation.specs.Pixels.{cellOf, Inside};
 ghost use Rattle.spans.specs.Span.{toRight, cellLevel, ceiling, laid};
-ghost use Rattle.spans.specs.Ends.{endsOf};
+ghost use Rattle.spans.specs.Ends.{upperHalf, middleOf, endsOf};
 ghost use Rattle.spans.specs.Needs.{FitsCell, Small, Levels};
 use evaluation::Pixel;
 use integers::Denominator;
 use pieces::Piece;
 
-// Where a row of pixels leaves the left piece of a cell, and the one between left and right: the first offsets beyond them; and which piece that one is.
+// Where a row of pixels leaves the left piece of a cell, and the one between left and right: the first offsets beyond them; and whether it lies in the upper
+// half, where that one is the top piece, not the bottom one.
 struct Ends {
     left: usize,
     middle: usize,
-    piece: Piece,
+    upper: bool,
 }
 
 // Fills `count` places of the row from index `at` on: with the level at a pixel of a cell, and those to its right in the same cell, span by span.
@@ -35,14 +36,13 @@ pub fn fill_cell(row: &mut [i32], at: usize, count: usize, n: [[i64; 3]; 4], fir
     let ends = span_ends(first);
     let left = before(ends.left, first.a, count);
     let both = before(ends.middle, first.a, count);
-    let middle = ends.piece;
     let a = first.a;
     fill_levels(row, at, left, cubic(n, Piece::Left, first), a, d);
     fill_levels(
         row,
         at + left,
         both - left,
-        cubic(n, middle, first),
+        middle_cubic(n, ends.upper, first),
         a + left,
         d,
     );
@@ -69,13 +69,13 @@ fn span_ends(p: Pixel) -> Ends
         return Ends {
             left: up,
             middle: p.width - up + 1,
-            piece: Piece::Top,
+            upper: true,
         };
     }
     Ends {
         left: p.width - down,
         middle: up,
-        piece: Piece::Bottom,
+        upper: false,
     }
 }
 
@@ -100,6 +100,17 @@ fn cubic(n: [[i64; 3]; 4], piece: Piece, p: Pixel) -> [i64; 4]
     ensures { λ r. ⌜ r ≡ alongRow (cellOf p) (sibson (corners n) (parts.pieceOf piece)) (p .b) ⌝ }
 {
     rows::along_row(pieces::coefficients(n, piece), p.b, p.width, p.height)
+}
+
+// The same of the piece between left and right. Each is named by itself, so that the compiler folds its weights.
+fn middle_cubic(n: [[i64; 3]; 4], upper: bool, p: Pixel) -> [i64; 4]
+    requires { ⌜ AllWithin largest (corners n) × Inside p × (upper ≡ upperHalf p) ⌝ }
+    ensures { λ r. ⌜ r ≡ alongRow (cellOf p) (sibson (corners n) (middleOf p)) (p .b) ⌝ }
+{
+    if upper {
+        return cubic(n, Piece::Top, p);
+    }
+    cubic(n, Piece::Bottom, p)
 }
 
 // Fills `count` places of the row from index `at` on with the levels of a cubic along the row, from an offset on. Three additions lead from a pixel's value to

@@ -12,13 +12,10 @@ use Rattle.integers.specs.Round.{round}
 use Rattle.integers.specs.Constants.{constants}
 use Rattle.integers.proofs.Operand.{Operand, returned}
 use Rattle.sibson.specs.Piece.{left, right}
-use Rattle.sibson.specs.Element.{sibson}
 use Rattle.corners.specs.Held.{corners}
 use Rattle.pieces.specs.Parts.{pieceOf}
-use Rattle.pieces.proofs.Names.{piece-back}
-use Rattle.rows.specs.Row.{alongRow, atOffset}
+use Rattle.rows.specs.Row.{atOffset}
 use Rattle.rows.proofs.Denominators.{denominates}
-use Rattle.evaluation.specs.Pixels.{cellOf}
 use Rattle.evaluation.specs.declared.Pixel.{Pixel}
 use Rattle.spans.specs.Span.{toRight, cellLevel, laid}
 use Rattle.spans.specs.Ends.{middleOf, endsOf}
@@ -73,28 +70,26 @@ module _ (c : tie.After-cubic) where
     pieces = λ k l. left-piece (start first .pre .1) (parted first) (0 + k) (omega arith);
   }
 
-module _ (c : tie.After-cubic2) where
+module _ (c : tie.After-middle-cubic) where
   abbrev second : tie.After-before3
   second = c .before .before .before .before .before .before
 
   span₂ : let a = start second .args in
-      Span (corners (a .n)) (a .first) (a .count) (middleOf (a .first)) (c .cubic2 .result) (lefts second) (both second - lefts second)
-  unfolding endsOf
-  span₂ = let a = start second .args in record {
-    along = c .cubic2 .ensures ∙ ap (λ q. alongRow (cellOf (a .first)) (sibson (corners (a .n)) q) (a .first .b))
-        (ap (λ z. pieceOf (z .piece)) (second .before .before .span-ends .ensures) ∙ piece-back _);
+      Span (corners (a .n)) (a .first) (a .count) (middleOf (a .first)) (c .middle-cubic .result) (lefts second) (both second - lefts second)
+  span₂ = record {
+    along = c .middle-cubic .ensures;
     fits = omega (arith, in-order second);
     pieces = λ k l. middle-piece (start second .pre .1) (parted second) (lefts second + k) (omega arith) (omega arith);
   }
 
-module _ (c : tie.After-cubic3) where
+module _ (c : tie.After-cubic2) where
   abbrev third : tie.After-before3
   third = c .before .before .before .before .before .before .before .before .before .before
 
-  span₃ : let a = start third .args in Span (corners (a .n)) (a .first) (a .count) right (c .cubic3 .result) (both third) (a .count - both third)
+  span₃ : let a = start third .args in Span (corners (a .n)) (a .first) (a .count) right (c .cubic2 .result) (both third) (a .count - both third)
   unfolding pieceOf
   span₃ = record {
-    along = c .cubic3 .ensures;
+    along = c .cubic2 .ensures;
     fits = omega (arith, in-order third);
     pieces = λ k l. right-piece (start third .pre .1) (parted third) (both third + k) (omega arith) (omega arith);
   }
@@ -126,6 +121,11 @@ fill-levels-requires c κs = let s = start (first c) in (
       (levels-fit (s .pre .0) (s .pre .1) (divisor (first c)) (span₁ c)),
   omega (arith, s .pre .2, in-order (first c)),
 )
+
+middle-cubic-requires : tie.Need-middle-cubic-requires
+unfolding endsOf
+middle-cubic-requires c κs = let b = c .before .before .before .before .before in
+    (start b .pre .0, start b .pre .1 .inside, ap (λ z. z .upper) (b .before .before .span-ends .ensures))
 
 sub-fill-levels : tie.Need-sub-fill-levels
 sub-fill-levels c = in-order (c .before .before .before .before .before) .0
@@ -165,7 +165,7 @@ fill-cell-spec =
     fill-levels-requires
     (λ c. search needs)
     sub-fill-levels
-    (λ c κs. search needs)
+    middle-cubic-requires
     (λ c. search needs)
     fill-levels-requires-2
     (λ c. search needs)

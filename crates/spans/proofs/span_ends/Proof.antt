@@ -4,11 +4,10 @@ use mathlib.Core.Path.{refl, sym, _∙_, ap}
 use native.Mathlib.Nat.{mul-le-mul}
 use native.Mathlib.Omega.{arith}
 use borrow.Author.Needs.{needs}
-use Rattle.pieces.specs.Parts.{named}
 use Rattle.spans.specs.Span.{endOf, ceiling}
 use Rattle.spans.specs.Ends.{endsOf}
 use Rattle.spans.proofs.Divisions.{floor-most, ceiling-most}
-use Rattle.spans.proofs.Crossing.{height-fits, upper-middle, lower-middle, upper-ends, lower-ends}
+use Rattle.spans.proofs.Crossing.{height-fits, upper-is, lower-is, upper-middle, lower-middle, upper-ends, lower-ends}
 use Rattle.spans.proofs.span_ends.Statement.{statement}
 use Rattle.spans.proofs.span_ends.Tie as tie
 
@@ -36,23 +35,23 @@ sub-t5 : tie.Need-sub-t5
 sub-t5 c = fits (start (c .before .before .before .before)) .0
 
 returns : tie.Need-returns
-unfolding endsOf named
+unfolding endsOf
 returns c = let u = c .before .before .before .before in let s = start u in let p = s .args .p in let h = c .before .if1 .taken in
     let e = upper-ends p (s .pre) h in λ t.
     record {
       left = (u .ceiling .ensures ∙ e .0) t;
-      middle = (ap (λ n. p .width - n + 1) (u .ceiling .ensures) ∙ e .1 ∙ ap (λ k. endOf k p) (sym (upper-middle p h))) t;
-      piece = ap named (sym (upper-middle p h)) t;
+      middle = (ap (λ n. p .width - n + 1) (u .ceiling .ensures) ∙ e .1 ∙ ap (λ k. endOf k p) (sym (upper-middle p (upper-is p h)))) t;
+      upper = sym (upper-is p h) t;
     }
 
 returns-2 : tie.Need-returns-2
-unfolding endsOf named
+unfolding endsOf
 returns-2 c = let u = c .before .before .before .before in let s = start u in let p = s .args .p in let h = c .before .if1 .left in
     let e = lower-ends p (s .pre) h in λ t.
     record {
       left = e .0 t;
-      middle = (u .ceiling .ensures ∙ e .1 ∙ ap (λ k. endOf k p) (sym (lower-middle p h))) t;
-      piece = ap named (sym (lower-middle p h)) t;
+      middle = (u .ceiling .ensures ∙ e .1 ∙ ap (λ k. endOf k p) (sym (lower-middle p (lower-is p h)))) t;
+      upper = sym (lower-is p h) t;
     }
 
 pub span-ends-spec : {M : Type 1} → statement M
