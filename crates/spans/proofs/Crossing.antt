@@ -14,7 +14,7 @@ use Rattle.evaluation.specs.declared.Pixel.{Pixel}
 use Rattle.spans.specs.Span.{ceiling, endOf}
 use Rattle.spans.specs.Ends.{upperHalf, middleOf}
 use Rattle.spans.proofs.Divisions.{below-floor, below-ceiling, from-floor, from-ceiling, floor-mirrored, ceiling-mirrored}
-use Rattle.spans.proofs.Products.{Holds}
+use Rattle.spans.proofs.Products.{At}
 
 module _ (p : Pixel) where
   pub upper-is : 2 * p .b ≤ p .height → upperHalf p ≡ true
@@ -41,22 +41,18 @@ module _ (p : Pixel) where
   lower-half w h = omega (arith, w, mul-le-mul-right (p .width) h, suc-mul (p .height) (p .width), mul-assoc 2 (p .b) (p .width), mul-comm (p .width) (p .height))
 
 module _ (p : Pixel) (i : Inside p) where
-  -- a piece holds at an offset
-  abbrev pub At : Piece → ℕ → Type 0
-  At k a = Holds k (a * p .height) (p .b * p .width) (p .width * p .height)
-
   -- s is at most 1
   pub height-fits : p .b * p .width ≤ p .width * p .height
   height-fits = omega (arith, mul-le-mul-right (p .width) (i .down), mul-comm (p .width) (p .height))
 
-  pub in-left : {a : ℕ} → a < endOf left p → At left a
+  pub in-left : {a : ℕ} → a < endOf left p → At p left a
   unfolding endOf
   in-left l = omega (arith, below-ceiling (i .height .least) .0 l)
 
   -- and from there on, with the middle piece k
   pub record Crossed (k : Piece) : Type 0 where
-    pub middle : {a : ℕ} → endOf left p ≤ a → a < endOf k p → At k a
-    pub beyond : {a : ℕ} → endOf k p ≤ a → At right a
+    pub middle : {a : ℕ} → endOf left p ≤ a → a < endOf k p → At p k a
+    pub beyond : {a : ℕ} → endOf k p ≤ a → At p right a
 
   upper : 2 * p .b ≤ p .height → Crossed top
   unfolding endOf

@@ -10,22 +10,18 @@ use Rattle.evaluation.specs.declared.Pixel.{Pixel}
 use Rattle.spans.specs.Span.{toRight, pixelPiece, endOf, SpanLaws}
 use Rattle.spans.proofs.Divisions.{below-floor, below-ceiling}
 use Rattle.spans.proofs.InRow.{inside-at}
-use Rattle.spans.proofs.Products.{Holds, piece-is, piece-holds}
+use Rattle.spans.proofs.Products.{At, piece-is, piece-holds}
 
 -- in the row of a pixel
 module _ (p : Pixel) (high : 0 < p .height) where
-  -- the piece k holds at the offset a
-  abbrev At : Piece → ℕ → Type 0
-  At k a = Holds k (a * p .height) (p .b * p .width) (p .width * p .height)
-
-  before-end : (k : Piece) (a : ℕ) → a ≤ p .width → At k a → a < endOf k p
+  before-end : (k : Piece) (a : ℕ) → a ≤ p .width → At p k a → a < endOf k p
   unfolding endOf
   before-end top a l h = below-floor high .1 (omega arith)
   before-end right a l h = omega arith
   before-end bottom a l h = below-ceiling high .1 (h .0)
   before-end left a l h = below-ceiling high .1 (omega arith)
 
-  up-to-end : (k : Piece) {a c : ℕ} → a ≤ c → At k a → c < endOf k p → At k c
+  up-to-end : (k : Piece) {a c : ℕ} → a ≤ c → At p k a → c < endOf k p → At p k c
   unfolding endOf
   up-to-end top l h e = (omega (arith, mul-le-mul-right (p .height) l), omega (arith, below-floor high .0 e))
   up-to-end right l h e = omega (arith, mul-le-mul-right (p .height) l)
@@ -41,8 +37,8 @@ module _ (p : Pixel) (high : 0 < p .height) where
   beyond-cell left l e = omega (arith, below-ceiling high .0 e, suc-mul (p .width) (p .height))
 
 -- the piece k holds the pixel
-held-by : (p : Pixel) → Inside p → {k : Piece} → pixelPiece p ≡ k → Holds k (p .a * p .height) (p .b * p .width) (p .width * p .height)
-held-by p i e = subst (λ k. Holds k (p .a * p .height) (p .b * p .width) (p .width * p .height)) e (piece-holds p i)
+held-by : (p : Pixel) → Inside p → {k : Piece} → pixelPiece p ≡ k → At p k (p .a)
+held-by p i e = subst (λ k. At p k (p .a)) e (piece-holds p i)
 
 pub span-laws : SpanLaws
 span-laws = record {
@@ -53,7 +49,7 @@ span-laws = record {
   ];
   same = λ p k i l. sym (piece-is (toRight p k) i (pixelPiece p) (up-to-end p (i .height .least) (pixelPiece p) (omega arith) (piece-holds p (inside-at i (omega (arith, i .across)))) l));
   beyond = λ p k i l e.
-      let h = subst (λ q. At p (i .height .least) q (p .a + k)) e (piece-holds (toRight p k) i) in
+      let h = subst (λ q. At p q (p .a + k)) e (piece-holds (toRight p k) i) in
       omega (arith, before-end p (i .height .least) (pixelPiece p) (p .a + k) (i .across) h);
   topOnly = λ p k i e f. omega (arith, held-by p (inside-at i (omega (arith, i .across))) e, held-by (toRight p k) i f);
   bottomOnly = λ p k i e f. omega (arith, held-by p (inside-at i (omega (arith, i .across))) e, held-by (toRight p k) i f);

@@ -9,11 +9,15 @@ use Rattle.evaluation.specs.declared.Pixel.{Pixel}
 use Rattle.places.proofs.Pieces.{at-top, at-right, at-bottom, at-left}
 use Rattle.spans.specs.Span.{pixelPiece}
 
-abbrev pub Holds : Piece → ℕ → ℕ → ℕ → Type 0
+abbrev Holds : Piece → ℕ → ℕ → ℕ → Type 0
 Holds top x y q = (y ≤ x) × (x + y ≤ q)
 Holds right x y q = (y ≤ x) × (q < x + y)
 Holds bottom x y q = (x < y) × (q ≤ x + y)
 Holds left x y q = (x < y) × (x + y < q)
+
+-- a piece holds at an offset in the row of a pixel
+abbrev pub At : Pixel → Piece → ℕ → Type 0
+At p k a = Holds k (a * p .height) (p .b * p .width) (p .width * p .height)
 
 some-piece : (x y q : ℕ) → (k : Piece) × Holds k x y q
 some-piece x y q =
@@ -23,12 +27,12 @@ some-piece x y q =
     ]
 
 module _ (p : Pixel) (i : Inside p) where
-  pub piece-is : (k : Piece) → Holds k (p .a * p .height) (p .b * p .width) (p .width * p .height) → k ≡ pixelPiece p
+  pub piece-is : (k : Piece) → At p k (p .a) → k ≡ pixelPiece p
   piece-is top h = at-top p i (h .0) (h .1)
   piece-is right h = at-right p i (h .0) (h .1)
   piece-is bottom h = at-bottom p i (h .0) (h .1)
   piece-is left h = at-left p i (h .0) (h .1)
 
-  pub piece-holds : Holds (pixelPiece p) (p .a * p .height) (p .b * p .width) (p .width * p .height)
+  pub piece-holds : At p (pixelPiece p) (p .a)
   piece-holds = let h = some-piece (p .a * p .height) (p .b * p .width) (p .width * p .height) in
-      subst (λ k. Holds k (p .a * p .height) (p .b * p .width) (p .width * p .height)) (piece-is (h .0) (h .1)) (h .1)
+      subst (λ k. At p k (p .a)) (piece-is (h .0) (h .1)) (h .1)
