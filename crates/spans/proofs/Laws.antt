@@ -1,5 +1,5 @@
 -- Where the spans of a row end: a piece that holds a pixel holds those to its right before its end, and no others. Assumes nothing.
-use Prim.Native.Nat.{ℕ, suc, _+_, _*_, _≤_, _<_}
+use Prim.Native.Nat.{ℕ, suc, _+_, _≤_, _<_}
 use mathlib.Core.Path.{_≡_, sym, subst}
 use native.Mathlib.Decide.{decLe}
 use native.Mathlib.Nat.{suc-mul, mul-comm, mul-le-mul-right}
