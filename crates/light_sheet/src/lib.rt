@@ -1,33 +1,33 @@
 // The calls of a light sheet, for every input: no call has a `requires`, and each outcome is an equation over what the call is given.
 ghost use mathlib.Core.Path.{_≡_};
 ghost use lib.ListN.{length};
-ghost use Rattle.sheet.specs.Format.{node};
-ghost use Rattle.sheet.specs.Refusals.{checkRefusal, lookupRefusal, settingRefusal, runRefusal};
-ghost use Rattle.sheet.specs.Calls.{lookedUp, Part, withNode};
-ghost use Rattle.answers.specs.Answers.{outcome};
-ghost use Rattle.surface.specs.Read.{read};
-ghost use Rattle.surface.specs.Run.{filled};
-use answers::Answer;
+ghost use Rattle.sheet_calls.specs.Format.{node};
+ghost use Rattle.sheet_calls.specs.Refusals.{checkRefusal, lookupRefusal, settingRefusal, runRefusal};
+ghost use Rattle.sheet_calls.specs.Calls.{lookedUp, Part, withNode};
+ghost use Rattle.surface_answers.specs.Answers.{outcome};
+ghost use Rattle.surface_of_sheet.specs.Read.{read};
+ghost use Rattle.surface_of_sheet.specs.Run.{filled};
+use surface_answers::Answer;
 
 // Checks a sheet: 0 where it is accepted, else the number of the first of the conditions 1 to 6 that holds.
 pub fn check(sheet: &[u8]) -> u32
     ensures { λ r. ⌜ r ≡ checkRefusal (now (sheet .entry)) ⌝ }
 {
-    checking::check(sheet)
+    sheet_checking::check(sheet)
 }
 
 // Looks up the node at a column and row, from 0: its six bytes inside the sheet; or, refused, an empty part from the sheet's start.
 pub fn node(sheet: &[u8], column: u32, row: u32) -> &[u8]
     ensures { λ r. ⌜ Part (sheet .entry) r (lookedUp (now (sheet .entry)) column row) ⌝ }
 {
-    nodes::node(sheet, column, row)
+    sheet_nodes::node(sheet, column, row)
 }
 
 // The companion of `node`: the number that refuses it on the same input (1 to 6, 10), or 0.
 pub fn node_refusal(sheet: &[u8], column: u32, row: u32) -> u32
     ensures { λ r. ⌜ r ≡ lookupRefusal (now (sheet .entry)) column row ⌝ }
 {
-    nodes::node_refusal(sheet, column, row)
+    sheet_nodes::node_refusal(sheet, column, row)
 }
 
 // Sets the node at a column and row to a height, in steps, and two slopes, in grains per pixel, and answers 0; or, refused (1 to 6, 10, 11), answers the
@@ -43,7 +43,7 @@ pub fn set_node(
     ensures answer { λ r. ⌜ r ≡ settingRefusal (now (sheet .entry)) column row (node height «x_slope» «y_slope») ⌝ }
     ensures sheet { λ r. ⌜ now (sheet .exit) ≡ withNode (now (sheet .entry)) column row (node height «x_slope» «y_slope») ⌝ }
 {
-    nodes::set_node(sheet, column, row, height, x_slope, y_slope)
+    sheet_nodes::set_node(sheet, column, row, height, x_slope, y_slope)
 }
 
 // Reads at the pixel (x, y): kind 0 is the level in steps, 1 the tilt (x, y) in steps per pixel, 2 the bend (xx, xy, yy) in steps per pixel per pixel; or
@@ -51,7 +51,7 @@ pub fn set_node(
 pub fn read(sheet: &[u8], x: u32, y: u32, kind: u32) -> Answer
     ensures { λ r. ⌜ outcome r ≡ read (now (sheet .entry)) x y kind ⌝ }
 {
-    pixels::read(sheet, x, y, kind)
+    surface_pixels::read(sheet, x, y, kind)
 }
 
 // Fills the lent row with the levels at the pixel (x, y) and at those to its right, one for each place, in grains, and answers 0; or, refused (1 to 6, 7, 8),
@@ -60,5 +60,5 @@ pub fn fill_run(sheet: &[u8], x: u32, y: u32, levels: &mut [i32]) -> u32
     ensures answer { λ r. ⌜ r ≡ runRefusal (now (sheet .entry)) x y (length (now (levels .entry))) ⌝ }
     ensures levels { λ r. ⌜ now (levels .exit) ≡ filled (now (sheet .entry)) x y (now (levels .entry)) ⌝ }
 {
-    filling::fill_run(sheet, x, y, levels)
+    surface_filling::fill_run(sheet, x, y, levels)
 }

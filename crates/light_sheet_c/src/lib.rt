@@ -2,14 +2,14 @@
 // pointer and a length in C, an array a pointer; include/light_sheet.h declares the calls.
 ghost use mathlib.Core.Path.{_≡_};
 ghost use lib.ListN.{length};
-ghost use Rattle.sheet.specs.Format.{node};
-ghost use Rattle.sheet.specs.Refusals.{checkRefusal, lookupRefusal, settingRefusal, runRefusal};
-ghost use Rattle.sheet.specs.Calls.{lookedUp, withNode};
-ghost use Rattle.answers.specs.Answers.{outcome};
-ghost use Rattle.surface.specs.Read.{read};
-ghost use Rattle.surface.specs.Run.{filled};
+ghost use Rattle.sheet_calls.specs.Format.{node};
+ghost use Rattle.sheet_calls.specs.Refusals.{checkRefusal, lookupRefusal, settingRefusal, runRefusal};
+ghost use Rattle.sheet_calls.specs.Calls.{lookedUp, withNode};
+ghost use Rattle.surface_answers.specs.Answers.{outcome};
+ghost use Rattle.surface_of_sheet.specs.Read.{read};
+ghost use Rattle.surface_of_sheet.specs.Run.{filled};
 ghost use Rattle.light_sheet_c.specs.Values.{over};
-use answers::Answer;
+use surface_answers::Answer;
 
 // Checks a sheet: 0 where it is accepted, else the number of the first of the conditions 1 to 6 that holds.
 #[no_mangle]
@@ -36,7 +36,7 @@ pub extern "C" fn lvs_node_offset(sheet: &[u8], column: u32, row: u32) -> usize
     if light_sheet::node_refusal(sheet, column, row) != 0 {
         return 0;
     }
-    checking::node_offset(sheet, column as usize, row as usize)
+    sheet_checking::node_offset(sheet, column as usize, row as usize)
 }
 
 // Sets the node at a column and row to a height, in steps, and two slopes, in grains per pixel, and answers 0; or, refused (1 to 6, 10, 11), answers the

@@ -1,8 +1,8 @@
 -- `light_sheet_c::lvs_node_offset` meets its contract. Assumes nothing.
 use mathlib.Core.Path.{refl, sym, _∙_}
 use borrow.Author.Needs.{needs}
-use Rattle.sheet.proofs.Chains.{lookup-held}
-use Rattle.nodes.proofs.Answers.{looked-none, looked-found}
+use Rattle.sheet_calls.proofs.Chains.{lookup-held}
+use Rattle.sheet_nodes.proofs.Answers.{looked-none, looked-found}
 use Rattle.light_sheet_c.proofs.lvs_node_offset.Statement.{statement}
 use Rattle.light_sheet_c.proofs.lvs_node_offset.Tie as tie
 

@@ -2,7 +2,7 @@
 use mathlib.Core.Path.{refl}
 use mathlib.Core.List.{[], _∷_}
 use borrow.Author.Needs.{needs}
-use Rattle.answers.specs.Answers.{outcome}
+use Rattle.surface_answers.specs.Answers.{outcome}
 use Rattle.light_sheet_c.specs.Values.{over}
 use Rattle.light_sheet_c.proofs.Stored.{stored}
 use Rattle.light_sheet_c.proofs.store.Statement.{statement}

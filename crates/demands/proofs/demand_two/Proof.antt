@@ -1,8 +1,0 @@
--- `demands::demand_two`: demand two holds. Assumes nothing.
-use mathlib.Core.Path.{refl}
-use Rattle.demands.proofs.DemandTwo.{demand-two}
-use Rattle.demands.proofs.demand_two.Statement.{statement}
-use Rattle.demands.proofs.demand_two.Tie as tie
-
-pub demand-two-spec : {M : Type 1} → statement M
-demand-two-spec = tie.close (tie.spec (λ c. (refl, demand-two)))

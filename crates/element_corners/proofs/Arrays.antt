@@ -1,0 +1,84 @@
+-- Corner numbers in arrays: what is written is read back, and turned corner numbers keep the bound, and nodes give it. Assumes nothing.
+use mathlib.Core.Path.{_≡_, refl, _∙_, ap, subst⁻¹}
+use mathlib.Core.List.{List}
+use Prim.Native.Nat.{ℕ}
+use lib.IntN.{ℤ, pos}
+use Rattle.integers.specs.Within.{_within_}
+use Rattle.integers.proofs.Bounds.{within-neg, within-*}
+use Rattle.element_sibson.specs.Cubic.{Jet}
+use Rattle.element_sibson.specs.Piece.{Corner, leftTop, rightTop, leftBottom, rightBottom}
+use Rattle.element_sibson.specs.Element.{Nodes, CornerNumbers, cornerNumbers, swap, negateX, negateY, exchanged, topDown, leftRight}
+use Rattle.element_readings.specs.Bounds.{largest, AllWithin}
+use Rattle.element_corners.specs.Held.{jetOf, corners, three, arrays, Measured, Side, side, cell}
+use Rattle.element_corners.proofs.Sides.{length-within, side-is}
+
+back : (n : CornerNumbers) (c : Corner) → corners (arrays n) c ≡ n c
+unfolding corners arrays jetOf three
+back n leftTop = refl
+back n rightTop = refl
+back n leftBottom = refl
+back n rightBottom = refl
+
+-- what arrays hold that a contract gives
+pub held : {r : List (List ℤ)} (n : CornerNumbers) → r ≡ arrays n → corners r ≡ n
+held n e = ap corners e ∙ (λ i c. back n c i)
+
+-- ---- bounds
+
+-- the three numbers of a corner
+abbrev JetWithin : ℕ → Jet ℤ → Type 0
+JetWithin N j = (j .height within N) × (j .xSlope within N) × (j .ySlope within N)
+
+all-within : {N : ℕ} {n : CornerNumbers} → ((c : Corner) → JetWithin N (n c)) → AllWithin N n
+all-within h = record { heights = λ c. h c .0; xSlopes = λ c. h c .1; ySlopes = λ c. h c .2 }
+
+module _ {N : ℕ} {n : CornerNumbers} (h : AllWithin N n) where
+  swapped : (c : Corner) → JetWithin N (swap (n c))
+  unfolding swap
+  swapped c = (h .heights c, h .ySlopes c, h .xSlopes c)
+
+  negatedX : (c : Corner) → JetWithin N (negateX (n c))
+  unfolding negateX
+  negatedX c = (h .heights c, within-neg (h .xSlopes c), h .ySlopes c)
+
+  negatedY : (c : Corner) → JetWithin N (negateY (n c))
+  unfolding negateY
+  negatedY c = (h .heights c, h .xSlopes c, within-neg (h .ySlopes c))
+
+  pub exchanged-within : AllWithin N (exchanged n)
+  unfolding exchanged
+  exchanged-within = all-within at
+    where
+      at : (c : Corner) → JetWithin N (exchanged n c)
+      at leftTop = swapped leftTop
+      at rightTop = swapped leftBottom
+      at leftBottom = swapped rightTop
+      at rightBottom = swapped rightBottom
+
+  pub topDown-within : AllWithin N (topDown n)
+  unfolding topDown
+  topDown-within = all-within at
+    where
+      at : (c : Corner) → JetWithin N (topDown n c)
+      at leftTop = negatedY leftBottom
+      at rightTop = negatedY rightBottom
+      at leftBottom = negatedY leftTop
+      at rightBottom = negatedY rightTop
+
+  pub leftRight-within : AllWithin N (leftRight n)
+  unfolding leftRight
+  leftRight-within = all-within at
+    where
+      at : (c : Corner) → JetWithin N (leftRight n c)
+      at leftTop = negatedX rightTop
+      at rightTop = negatedX leftTop
+      at leftBottom = negatedX rightBottom
+      at rightBottom = negatedX leftBottom
+
+-- 64 pixels times a slope of 4,095
+pub measured-within : {w h : ℕ} {m : Nodes} → Measured m → Side w → Side h → AllWithin largest (cornerNumbers (cell w h) m)
+unfolding cornerNumbers cell
+measured-within {w} {h} {m} k u v = record { heights = k .heights; xSlopes = λ c. within-* (sided u) (k .xSlopes c); ySlopes = λ c. within-* (sided v) (k .ySlopes c) }
+  where
+    sided : {l : ℕ} → Side l → pos (side l .number) within 64
+    sided s = subst⁻¹ (λ (l : ℕ). pos l within 64) (side-is s) (length-within (s .most))

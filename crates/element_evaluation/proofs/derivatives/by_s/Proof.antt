@@ -1,0 +1,33 @@
+-- `element_evaluation::derivatives::by_s` meets its contract. Assumes nothing.
+use mathlib.Core.List.{[], _∷_}
+use borrow.Author.Needs.{needs}
+use lib.IntN.{pos}
+use mir.Syntax.{w64}
+use Rattle.integers.proofs.Operand.{literal, _⊠_, asks, gives}
+use Rattle.element_sibson.specs.Cubic.{s¹, rs, s², r²s, rs², s³, byS}
+use Rattle.element_readings.specs.Bounds.{listed}
+use Rattle.element_turnings.specs.Doubled.{halves}
+use Rattle.element_evaluation.proofs.Derived.{k-at}
+use Rattle.element_evaluation.proofs.derivatives.by_s.Statement.{statement}
+use Rattle.element_evaluation.proofs.derivatives.by_s.Tie as tie
+
+returns : tie.Need-returns
+unfolding byS listed halves
+returns c = let h = c .before .before .before .before .before .before .pre in λ i.
+    k-at h s¹ .reads i ∷ k-at h rs .reads i ∷ gives w64 (literal (pos 2) ⊠ k-at h s²) tt i ∷ k-at h r²s .reads i ∷
+    gives w64 (literal (pos 2) ⊠ k-at h rs²) tt i ∷ gives w64 (literal (pos 3) ⊠ k-at h s³) tt i ∷ []
+
+pub by-s-spec : {M : Type 1} → statement M
+by-s-spec =
+    tie.close
+    (tie.spec
+    (λ c. search needs)
+    (λ c. search needs)
+    (λ c. search needs)
+    (λ c. asks w64 (literal (pos 2) ⊠ k-at (c .before .before .before .pre) s²) tt)
+    (λ c. search needs)
+    (λ c. search needs)
+    (λ c. asks w64 (literal (pos 2) ⊠ k-at (c .before .before .before .before .before .pre) rs²) tt)
+    (λ c. search needs)
+    (λ c. asks w64 (literal (pos 3) ⊠ k-at (c .before .before .before .before .before .before .pre) s³) tt)
+    returns)

@@ -1,0 +1,77 @@
+// The level along a row of pixels: over 2 W³ H³ it is a cubic in the offset from the cell's left edge.
+pub mod theorems;
+
+ghost use mathlib.Core.Path.{_≡_};
+ghost use Prim.Native.Nat.{_*_, _^_, _≤_};
+ghost use lib.IntN.{pos};
+ghost use Rattle.element_readings.specs.Bounds.{largest, size};
+ghost use Rattle.element_corners.specs.Held.{Side, cell};
+ghost use Rattle.element_turnings.specs.Doubled.{halves, Sized};
+ghost use Rattle.element_row_cubic.specs.Row.{down, alongRow, atOffset, cubesOf, reach};
+ghost use Rattle.element_row_cubic.specs.Steps.{differences, stepped, Steps};
+use element_corners::lengths::cube;
+use element_corners::lengths::length;
+use element_corners::lengths::square;
+
+// Its four coefficients, b pixels from the top edge.
+pub fn along_row(k: [i64; 10], b: usize, width: usize, height: usize) -> [i64; 4]
+    requires { ⌜ Sized k × Side width × Side height × (b ≤ height) ⌝ }
+    ensures { λ r. ⌜ r ≡ alongRow (cell width height) (halves k) b ⌝ }
+{
+    [
+        cube(width) * down([k[0], k[2], k[5], k[9]], b, height),
+        square(width) * down([k[1], k[4], k[8], 0], b, height),
+        length(width) * down([k[3], k[7], 0, 0], b, height),
+        down([k[6], 0, 0, 0], b, height),
+    ]
+}
+
+// Its value at an offset, by Horner's rule.
+pub fn at_offset(row: [i64; 4], offset: usize) -> i64
+    requires { ⌜ (reach row ≤ 2 ^ 62) × (offset ≤ 64) ⌝ }
+    ensures { λ r. ⌜ r ≡ atOffset row offset ⌝ }
+{
+    let a = length(offset);
+    row[0] + a * (row[1] + a * (row[2] + a * row[3]))
+}
+
+// Its value at an offset and the first, second and third difference there: from them the values to the right follow by additions.
+pub fn differences(row: [i64; 4], offset: usize) -> [i64; 4]
+    requires { ⌜ (offset ≤ 64) × (reach row ≤ 2 ^ 62) ⌝ }
+    ensures { λ r. ⌜ r ≡ differences row offset ⌝ }
+{
+    let a = length(offset);
+    let next = a + 1;
+    [
+        at_offset(row, offset),
+        row[1] + row[2] * (a + next) + row[3] * (3 * a * next + 1),
+        2 * row[2] + 6 * row[3] * next,
+        6 * row[3],
+    ]
+}
+
+// The same an offset further on.
+pub fn stepped(z: [i64; 4]) -> [i64; 4]
+    requires { ⌜ Steps z ⌝ }
+    ensures { λ r. ⌜ r ≡ stepped z ⌝ }
+{
+    [z[0] + z[1], z[1] + z[2], z[2] + z[3], z[3]]
+}
+
+// 2 W³ H³
+pub fn denominator(width: usize, height: usize) -> i64
+    requires { ⌜ Side width × Side height ⌝ }
+    ensures { λ r. ⌜ r ≡ pos (2 * cubesOf (cell width height) .number) ⌝ }
+{
+    2 * (cube(width) * cube(height))
+}
+
+// c₀ + c₁ s + c₂ s² + c₃ s³ at s = b/H, times H³
+fn down(c: [i64; 4], b: usize, height: usize) -> i64
+    requires { ⌜ (size c ≤ 256 * largest) × Side height × (b ≤ height) ⌝ }
+    ensures { λ r. ⌜ r ≡ down c b height ⌝ }
+{
+    let h = length(height);
+    let v = length(b);
+    c[0] * (h * h * h) + c[1] * (v * h * h) + c[2] * (v * v * h) + c[3] * (v * v * v)
+}

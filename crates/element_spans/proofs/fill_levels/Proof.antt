@@ -1,0 +1,108 @@
+-- `element_spans::fill_levels` meets its contract. Assumes nothing.
+use Prim.Native.Nat.{ℕ, _+_, _-_, _≤_}
+use mathlib.Core.Path.{_≡_, sym, _∙_, ap, subst⁻¹}
+use mathlib.Core.List.{List}
+use native.Mathlib.Nat.{add-zero, add-assoc}
+use native.Mathlib.Omega.{arith}
+use borrow.Author.Needs.{needs}
+use lib.IntN.{ℤ, pos, natAbs}
+use lib.ListN.{length, getD}
+use mir.Syntax.{w32, w64}
+use Rattle.integers.specs.Round.{round}
+use Rattle.integers.specs.declared.Denominator.{Denominator}
+use Rattle.integers.proofs.Operand.{Operand, known, unchanged}
+use Rattle.element_row_cubic.specs.Row.{atOffset}
+use Rattle.element_row_cubic.specs.Steps.{differences, stepped, Steps}
+use Rattle.element_row_cubic.proofs.Rises.{steps-on, may-step}
+use Rattle.element_spans.specs.Span.{laid}
+use Rattle.element_spans.specs.Needs.{Level}
+use Rattle.element_spans.proofs.Laid.{laid-length, laid-none, laid-next, laid-all}
+use Rattle.element_spans.proofs.fill_levels.Statement.{statement}
+use Rattle.element_spans.proofs.fill_levels.Tie as tie
+
+-- the level at the offset k further on
+abbrev level : List ℤ → ℕ → Denominator → ℕ → ℤ
+level cubic offset d k = round (atOffset cubic (offset + k)) (natAbs (d .value))
+
+-- of every cubic with the differences that the loop starts from
+abbrev Inv-loop : tie.InvT-loop
+Inv-loop row₀ at count offset d z₀ k₀ row z k =
+    (k ≤ count) × ((p : List ℤ) → z₀ ≡ differences p offset → (z ≡ differences p (offset + k)) × (row ≡ laid (level p offset d) at k row₀))
+
+abbrev μ-loop : tie.MeasureT-loop
+μ-loop row₀ at count offset d z₀ k₀ row z k = count - k
+
+-- the place that the differences start from is the first pixel's
+none : (p : List ℤ) (a : ℕ) {z : List ℤ} → z ≡ differences p a → z ≡ differences p (a + 0)
+none p a e = e ∙ ap (λ n. differences p n) (sym (add-zero a))
+
+module _ (c : tie.At-loop Inv-loop μ-loop) where
+  abbrev start : tie.Start Inv-loop μ-loop
+  start = c .before .before .before
+
+  -- what the loop has, of the cubic that was lent
+  held : let a = start .args in (c .loop .z ≡ differences (a .cubic) (a .offset + c .loop .k)) × (c .loop .row ≡ laid (level (a .cubic) (a .offset) (a .d)) (a .at) (c .loop .k) (a .row .now))
+  held = c .loop .inv .1 (start .args .cubic) (c .before .differences .ensures)
+
+  -- the row keeps its length
+  kept : length (c .loop .row) ≡ length (start .args .row .now)
+  kept = ap length (held .1) ∙ laid-length _ _ _ _
+
+module _ (c : tie.In-loop Inv-loop μ-loop) where
+  asked : let a = start (c .before) .args in Level (a .cubic) (a .offset + c .before .loop .k) (a .d)
+  asked = start (c .before) .pre .0 (c .before .loop .k) (c .loop-test .taken)
+
+  may : Steps (c .before .loop .z)
+  may = subst⁻¹ Steps (held (c .before) .0) (may-step (start (c .before) .args .cubic) (asked .reached) (asked .near))
+
+  abbrev value : Operand
+  value = known w64 (may .value) tt
+
+value-is : (p : List ℤ) (a : ℕ) {z : List ℤ} → z ≡ differences p a → getD z 0 (pos 0) ≡ atOffset p a
+unfolding differences
+value-is p a e = ap (λ z. getD z 0 (pos 0)) e
+
+returns : tie.Need-returns Inv-loop μ-loop
+returns c = laid-all _ _ _ (search needs) (omega (arith, c .if1 .taken)) (laid-none _ _ _)
+
+differences-requires : tie.Need-differences-requires Inv-loop μ-loop
+differences-requires c κs = let l = c .before .pre .0 0 (omega (arith, c .if1 .left)) in (omega (arith, l .near), l .reached)
+
+level-requires : tie.Need-level-requires Inv-loop μ-loop
+level-requires c κs = let l = c .before in rw (value l .reads, value-is (start (l .before) .args .cubic) _ (held (l .before) .0)) (asked l .level)
+
+slice-set-from-row : tie.Need-slice-set-from-row Inv-loop μ-loop
+slice-set-from-row c = let l = c .before .before in omega (arith, kept (l .before), l .loop-test .taken, start (l .before) .pre .1)
+
+loop-again : tie.Need-loop-again Inv-loop μ-loop
+loop-again c = let l = c .before .before .before in let a = start (l .before) .args in let k = l .before .loop .k in (
+  search needs,
+  λ p e. let h = l .before .loop .inv .1 p e in (
+    c .stepped .ensures ∙ ap stepped (h .0) ∙ steps-on p (a .offset + k) ∙ ap (λ n. differences p n) (add-assoc (a .offset) k 1),
+    laid-next _ _ _ _ (h .1) (unchanged w32 (c .before .level .ok) ∙ c .before .level .ensures ∙ ap (λ z. round z (natAbs (a .d .value))) (value l .reads ∙ value-is p _ (h .0))),
+  ),
+)
+
+returns-2 : tie.Need-returns-2 Inv-loop μ-loop
+returns-2 c = let i = c .before .loop .inv in laid-all _ _ _ (i .0) (c .loop-test .left) (held (c .before) .1)
+
+pub fill-levels-spec : {M : Type 1} → statement M
+fill-levels-spec =
+    tie.close
+    (tie.spec
+    Inv-loop
+    μ-loop
+    returns
+    differences-requires
+    (λ c. (search needs, λ p e. (none p _ e, laid-none _ _ _)))
+    (λ c. search needs)
+    level-requires
+    (λ c. record { fits = omega (arith, asked (c .before .before) .near) })
+    (λ c. search needs)
+    slice-set-from-row
+    (λ c κs. may (c .before .before))
+    (λ c. search needs)
+    (λ c. search needs)
+    loop-again
+    (λ c. kept (c .before))
+    returns-2)

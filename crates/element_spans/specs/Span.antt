@@ -1,0 +1,51 @@
+-- A row of pixels in one cell: the level at each, where its spans end (one for each piece that it crosses), and a row with some places rewritten. Assumes nothing.
+use Prim.Native.Nat.{ℕ, zero, suc, _+_, _*_, _-_, _/_, _≤_, _<_, min}
+use mathlib.Core.Path.{_≡_}
+use mathlib.Core.List.{List}
+use lib.IntN.{ℤ}
+use lib.ListN.{set}
+use Rattle.element_sibson.specs.Piece.{Piece, top, right, bottom, left, pieceAt}
+use Rattle.element_sibson.specs.Element.{CornerNumbers, sibson}
+use Rattle.element_readings.specs.Reading.{level}
+use Rattle.element_evaluation.specs.Pixels.{cellOf, pointOf, Inside}
+use Rattle.element_evaluation.specs.declared.Pixel.{Pixel}
+
+-- the pixel k to the right
+abbrev pub toRight : Pixel → ℕ → Pixel
+toRight p k = record { a = p .a + k; b = p .b; width = p .width; height = p .height }
+
+-- the piece of a pixel, and the level there of the set we read from with these corner numbers
+abbrev pub pixelPiece : Pixel → Piece
+pixelPiece p = pieceAt (pointOf p)
+
+unfoldable pub cellLevel : CornerNumbers → Pixel → ℤ
+cellLevel n p = level (cellOf p) (sibson n (pixelPiece p)) (pointOf p)
+
+-- n / d, rounded up
+unfoldable pub ceiling : ℕ → ℕ → ℕ
+ceiling n d = (n + d - 1) / d
+
+-- the first offset beyond a piece, in the row of a pixel: left and bottom end where the row meets a diagonal, whose pixel is of the next piece, with a lower
+-- number; the top one ends behind that pixel; the right one ends with the cell, whose right edge counts
+unfoldable pub endOf : Piece → Pixel → ℕ
+endOf top p = suc ((p .width * p .height - p .b * p .width) / p .height)
+endOf right p = suc (p .width)
+endOf bottom p = ceiling (p .b * p .width) (p .height)
+endOf left p = ceiling (min (p .b * p .width) (p .width * p .height - p .b * p .width)) (p .height)
+
+-- a pixel's piece holds the pixels of the cell to its right that lie before that end, and none from there on; the end is no further than the cell's
+pub record SpanLaws : Type 0 where
+  pub starts : (p : Pixel) → Inside p → p .a < endOf (pixelPiece p) p
+  pub within : (p : Pixel) → Inside p → endOf (pixelPiece p) p ≤ suc (p .width)
+  pub same : (p : Pixel) (k : ℕ) → Inside (toRight p k) → p .a + k < endOf (pixelPiece p) p → pixelPiece (toRight p k) ≡ pixelPiece p
+  pub beyond : (p : Pixel) (k : ℕ) → Inside (toRight p k) → endOf (pixelPiece p) p ≤ p .a + k → ¬ (pixelPiece (toRight p k) ≡ pixelPiece p)
+  -- no row has pixels of top and of bottom, so it has three spans at most
+  pub topOnly : (p : Pixel) (k : ℕ) → Inside (toRight p k) → pixelPiece p ≡ top → ¬ (pixelPiece (toRight p k) ≡ bottom)
+  pub bottomOnly : (p : Pixel) (k : ℕ) → Inside (toRight p k) → pixelPiece p ≡ bottom → ¬ (pixelPiece (toRight p k) ≡ top)
+
+-- ---- places of a lent row
+
+-- count places rewritten, from index at on: place at + k holds f k
+unfoldable pub laid : (ℕ → ℤ) → ℕ → ℕ → List ℤ → List ℤ
+laid f at zero row = row
+laid f at (suc k) row = set (laid f at k row) (at + k) (f k)

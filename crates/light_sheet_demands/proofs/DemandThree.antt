@@ -1,0 +1,32 @@
+-- Demand 3, from the theorems on one cell and on the surface of a sheet. Assumes nothing.
+use mathlib.Core.Path.{sym, _∙_}
+use lib.Dec.{lit≤}
+use Rattle.element_sibson.proofs.Linearity.{linearity}
+use Rattle.element_sibson.proofs.Unique.{uniqueness}
+use Rattle.surface_of_sheet.specs.Surface.{jetAt}
+use Rattle.surface_of_sheet.specs.Read.{exact}
+use Rattle.surface_of_sheet.proofs.Sets.{the-set, shared-edges}
+use Rattle.surface_of_sheet.proofs.Places.{place-laws}
+use Rattle.surface_of_sheet.proofs.Runs.{run-laws}
+use Rattle.surface_of_sheet.proofs.HalfUnits.{half-units}
+use Rattle.light_sheet_demands.specs.Demands.{DemandThree}
+
+pub demand-three : DemandThree
+unfolding jetAt exact
+demand-three = record {
+  unique = uniqueness .exactly;
+  linear = linearity;
+  widths = the-set .widths;
+  heights = the-set .heights;
+  meets = λ s a i j h. the-set .fits s a i j h .meets;
+  nodes = λ s a i j h. the-set .fits s a i j h .nodes;
+  only = λ s a i j h S m n. the-set .only s a i j h S (record { meets = m; nodes = n });
+  sideBySide = shared-edges .sideBySide;
+  oneAboveTheOther = shared-edges .oneAboveTheOther;
+  levels = λ a i c. half-units .returned _ _ _ 0 a i (lit≤ tt) _ (c .answer);
+  tilts = λ a i c. half-units .returned _ _ _ 1 a i (lit≤ tt) _ (c .answer);
+  bends = λ a i c. half-units .returned _ _ _ 2 a i (lit≤ tt) _ (c .answer);
+  places = place-laws;
+  runs = λ c k l. rw (c .levels) (half-units .runs _ _ _ _ (sym (c .answer)) k l);
+  reached = λ k a i j e c. c .answer ∙ rw e (run-laws .taken _ _ _ k a i j);
+}

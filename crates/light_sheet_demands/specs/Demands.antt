@@ -1,0 +1,214 @@
+-- The customer's three demands, sentence by sentence, of whatever the calls of crates/light_sheet, and those for C, may give and leave by their contracts. Assumes
+-- nothing.
+use Prim.Native.Nat.{ℕ, suc, _+_, _≤_, _<_}
+use mathlib.Core.Path.{_≡_}
+use mathlib.Core.Logic.{_↔_}
+use mathlib.Core.List.{List, [], _∷_, map}
+use denote.Ref.{RefT, now}
+use lib.IntN.{ℤ, pos, _+ℤ_, _*ℤ_}
+use lib.ListN.{length, getD, take}
+use lib.Ieee.{Float}
+use Rattle.element_sibson.specs.Fraction.{positive, ℚ, _≈_, _+ℚ_, _-ℚ_, _·ℚ_, whole, half}
+use Rattle.element_sibson.specs.Cubic.{Cell, Point, Jet, Bend, value, jet, bend, _≋_}
+use Rattle.element_sibson.specs.Piece.{Piece, top, right, bottom, left, FourCubics, edge}
+use Rattle.element_sibson.specs.Conditions.{Meets, SameCorners, Equal}
+use Rattle.element_sibson.specs.Element.{cornerNumbers, halved}
+use Rattle.element_sibson.specs.Sense.{Derivatives, Linearity}
+use Rattle.element_sibson.specs.Theorems.{Has, wholes}
+use Rattle.element_nistir_6718.specs.Source as nistir
+use Rattle.element_readings.specs.Reading.{rounded, _withinℚ_}
+use Rattle.sheet_words.specs.Word.{byteAt}
+use Rattle.sheet_calls.specs.Format.{lineX, lineY, Node, decoded, nodeSize, nodeOffset, grainsPerStep}
+use Rattle.sheet_calls.specs.Refusals.{otherMark, otherVersion, otherCounts, otherLength, wrongLines, wrongNodes, offMesh, emptyRun, otherKind, noNode, wrongNumbers, Input, table, part, zeroNode, atPixel, atNode, ofSheet, checkRefusal, lookupRefusal, settingRefusal, runRefusal, Accepted}
+use Rattle.sheet_calls.specs.RefusalLaws.{Fails, Each, FirstToHold}
+use Rattle.sheet_calls.specs.WellFormed.{Inside, ConditionLaws}
+use Rattle.sheet_calls.specs.Calls.{Part, span, lookedUp, withNode}
+use Rattle.sheet_calls.specs.NodeLaws.{ReadsBack}
+use Rattle.surface_answers.specs.Answers.{outcome, quotient}
+use Rattle.surface_answers.specs.declared.Answer.{Answer}
+use Rattle.surface_answers.specs.declared.Answer.the-variants as answer
+use Rattle.surface_of_sheet.specs.Place.{cellOf, HasCell, pointAt, place}
+use Rattle.surface_of_sheet.specs.Surface.{nodesOf, setOf}
+use Rattle.surface_of_sheet.specs.Read.{read}
+use Rattle.surface_of_sheet.specs.Run.{filled}
+use Rattle.surface_of_sheet.specs.Touching.{PlaceLaws}
+use Rattle.surface_of_sheet.specs.Theorems.{HalfUnitsFrom}
+use Rattle.light_sheet_c.specs.Values.{over}
+
+-- ---- the contracts of the calls: what each gives and leaves follows from its input
+
+-- `check` gives n
+pub record Check (s : List ℕ) (n : ℕ) : Type 0 where
+  pub answer : n ≡ checkRefusal s
+
+-- `node_refusal` gives n
+pub record NodeRefusal (s : List ℕ) (i j n : ℕ) : Type 0 where
+  pub answer : n ≡ lookupRefusal s i j
+
+-- `node` on the slice s hands back r
+pub record NodeCall (s : RefT (List ℕ)) (i j : ℕ) (r : RefT (List ℕ)) : Type 0 where
+  pub part : Part s r (lookedUp (now s) i j)
+
+-- `set_node` on the sheet s gives n and leaves t
+pub record SetNode (s : List ℕ) (i j : ℕ) (v : Node) (n : ℕ) (t : List ℕ) : Type 0 where
+  pub answer : n ≡ settingRefusal s i j v
+  pub sheet : t ≡ withNode s i j v
+
+-- `read` gives r
+pub record Read (s : List ℕ) (x y kind : ℕ) (r : Answer) : Type 0 where
+  pub answer : outcome r ≡ read s x y kind
+
+-- `fill_run` on the row gives n and leaves row′
+pub record FillRun (s : List ℕ) (x y : ℕ) (row : List ℤ) (n : ℕ) (row′ : List ℤ) : Type 0 where
+  pub answer : n ≡ runRefusal s x y (length row)
+  pub levels : row′ ≡ filled s x y row
+
+-- the calls for C, of crates/light_sheet_c: four meet the records above, and the two below are theirs alone
+
+-- `lvs_node_offset` gives k
+pub record NodeOffset (s : List ℕ) (i j k : ℕ) : Type 0 where
+  pub answer : k ≡ lookedUp s i j .start
+
+-- `lvs_read` on a lent array of floats gives n and leaves array′: the number and the values of a reading, these in the first places
+pub record ReadInto (s : List ℕ) (x y kind : ℕ) (array : List Float) (n : ℕ) (array′ : List Float) : Type 0 where
+  pub reading : Answer
+  pub isRead : Read s x y kind reading
+  pub answer : n ≡ outcome reading .number
+  pub values : array′ ≡ over (outcome reading .values) array
+
+-- ---- demand 1
+
+-- n is the number that a call gives which makes these checks of the table on its input u: a refusal's exactly when its condition is the first of them in order
+-- to hold, 0 exactly when none holds
+pub record Gives (checks : List ℕ) (u : Input) (n : ℕ) : Type 0 where
+  pub refused : (k : ℕ) → ¬ (k ≡ 0) → (n ≡ k) ↔ FirstToHold (part checks table) u k
+  pub taken : (n ≡ 0) ↔ Each (Fails u) (part checks table)
+
+pub record DemandOne : Type 0 where
+  -- "The memory a caller lends, sheet or row, comes back with only those places altered that the call is there to write, and after a refusal with none
+  -- altered." `set_node` is there to write the bytes of a node, `fill_run` all places of the row, and `lvs_read` as many of the array as the kind has values: one,
+  -- two or three. What is lent by `&`, to the other calls and as the sheet of `fill_run` and `lvs_read`, none can alter
+  pub sheetSize : {s t : List ℕ} {i j n : ℕ} {v : Node} → SetNode s i j v n t → length t ≡ length s
+  pub beforeNode : {s t : List ℕ} {i j n : ℕ} {v : Node} → SetNode s i j v n t → (k : ℕ) → k < nodeOffset s i j → byteAt t k ≡ byteAt s k
+  pub afterNode : {s t : List ℕ} {i j n : ℕ} {v : Node} → SetNode s i j v n t → (k : ℕ) → nodeOffset s i j + nodeSize ≤ k → byteAt t k ≡ byteAt s k
+  pub sheetRefused : {s t : List ℕ} {i j n : ℕ} {v : Node} → SetNode s i j v n t → ¬ (n ≡ 0) → t ≡ s
+  pub rowSize : {s : List ℕ} {x y n : ℕ} {row row′ : List ℤ} → FillRun s x y row n row′ → length row′ ≡ length row
+  pub rowRefused : {s : List ℕ} {x y n : ℕ} {row row′ : List ℤ} → FillRun s x y row n row′ → ¬ (n ≡ 0) → row′ ≡ row
+  pub arraySize : {s : List ℕ} {x y kind n : ℕ} {array array′ : List Float} → ReadInto s x y kind array n array′ → length array′ ≡ length array
+  pub arrayBehind : {s : List ℕ} {x y kind n : ℕ} {array array′ : List Float} → ReadInto s x y kind array n array′ → (k : ℕ) → kind < k → (v : Float) →
+      getD array′ k v ≡ getD array k v
+  pub arrayRefused : {s : List ℕ} {x y kind n : ℕ} {array array′ : List Float} → ReadInto s x y kind array n array′ → ¬ (n ≡ 0) → array′ ≡ array
+  -- "This holds for all input, with no reading past the lent part, no wrapped sum and no call that fails to end." No public call has a `requires`, and of
+  -- every function the gate shows that it reads and writes within bounds, that no operation loses a bit, and that it ends
+
+  -- "Each refusal is given when its listed condition is the first in order to hold, and then only."
+  pub check : {s : List ℕ} {n : ℕ} → Check s n → Gives (1 ∷ 2 ∷ 3 ∷ 4 ∷ 5 ∷ 6 ∷ []) (ofSheet s) n
+  pub lookup : {s : List ℕ} {i j n : ℕ} → NodeRefusal s i j n → Gives (1 ∷ 2 ∷ 3 ∷ 4 ∷ 5 ∷ 6 ∷ 10 ∷ []) (atNode s i j zeroNode) n
+  pub setting : {s t : List ℕ} {i j n : ℕ} {v : Node} → SetNode s i j v n t → Gives (1 ∷ 2 ∷ 3 ∷ 4 ∷ 5 ∷ 6 ∷ 10 ∷ 11 ∷ []) (atNode s i j v) n
+  pub reading : {s : List ℕ} {x y kind : ℕ} {r : Answer} → Read s x y kind r →
+      Gives (1 ∷ 2 ∷ 3 ∷ 4 ∷ 5 ∷ 6 ∷ 7 ∷ 9 ∷ []) (atPixel s x y 0 kind) (outcome r .number)
+  pub arrayReading : {s : List ℕ} {x y kind n : ℕ} {array array′ : List Float} → ReadInto s x y kind array n array′ →
+      Gives (1 ∷ 2 ∷ 3 ∷ 4 ∷ 5 ∷ 6 ∷ 7 ∷ 9 ∷ []) (atPixel s x y 0 kind) n
+  pub run : {s : List ℕ} {x y n : ℕ} {row row′ : List ℤ} → FillRun s x y row n row′ →
+      Gives (1 ∷ 2 ∷ 3 ∷ 4 ∷ 5 ∷ 6 ∷ 7 ∷ 8 ∷ []) (atPixel s x y (length row) 0) n
+  -- a lookup that its companion says is refused hands back an empty part from the sheet's start; else the node's six bytes, where they lie
+  pub emptyPart : {s r : RefT (List ℕ)} {i j n : ℕ} → NodeCall s i j r → NodeRefusal (now s) i j n → ¬ (n ≡ 0) → Part s r (span 0 0)
+  pub nodePart : {s r : RefT (List ℕ)} {i j n : ℕ} → NodeCall s i j r → NodeRefusal (now s) i j n → n ≡ 0 → Part s r (span (nodeOffset (now s) i j) nodeSize)
+  -- in C the part is known by where it starts: 0 exactly where the lookup is refused, for no node starts there
+  pub offset : {s : List ℕ} {i j k n : ℕ} → NodeOffset s i j k → NodeRefusal s i j n → n ≡ 0 → k ≡ nodeOffset s i j
+  pub noOffset : {s : List ℕ} {i j k n : ℕ} → NodeOffset s i j k → NodeRefusal s i j n → (k ≡ 0) ↔ ¬ (n ≡ 0)
+  -- a reading that is refused gives its number and nothing else
+  pub noValues : {s : List ℕ} {x y kind : ℕ} {r : Answer} → Read s x y kind r → ¬ (outcome r .number ≡ 0) → outcome r .values ≡ []
+  -- the table: its numbers in order, the condition of each, and what the conditions say
+  pub order : map (λ r. r .number) table ≡ 1 ∷ 2 ∷ 3 ∷ 4 ∷ 5 ∷ 6 ∷ 7 ∷ 8 ∷ 9 ∷ 10 ∷ 11 ∷ []
+  pub listed : (u : Input) → map (λ r. r .condition u) table ≡
+      otherMark (u .sheet) ∷ otherVersion (u .sheet) ∷ otherCounts (u .sheet) ∷ otherLength (u .sheet) ∷ wrongLines (u .sheet) ∷ wrongNodes (u .sheet) ∷
+      offMesh (u .sheet) (u .x) (u .y) (u .count) ∷ emptyRun (u .count) ∷ otherKind (u .kind) ∷ noNode (u .sheet) (u .column) (u .row) ∷ wrongNumbers (u .numbers) ∷ []
+  pub conditions : ConditionLaws
+
+-- ---- the surface that demands 2 and 3 speak of: `setOf s i j` is the set we read from in the cell in column i and row j
+
+-- height and slopes of its cubic on a piece, at a point
+abbrev pub cellJet : List ℕ → ℕ → ℕ → Piece → Point → Jet ℚ
+cellJet s i j k P = jet (cellOf s i j) (setOf s i j k) P
+
+-- the same at a pixel: in the pixel's cell, on the pixel's piece
+abbrev pub pixelJet : List ℕ → ℕ → ℕ → Jet ℚ
+pixelJet s x y = let p = place s x y in cellJet s (p .column) (p .row) (p .piece) (pointAt s p)
+
+-- the second derivatives there, in grains per pixel per pixel
+abbrev pub pixelBend : List ℕ → ℕ → ℕ → Bend
+pixelBend s x y = let p = place s x y in bend (cellOf s (p .column) (p .row)) (setOf s (p .column) (p .row) (p .piece)) (pointAt s p)
+
+-- ---- demand 2
+
+pub record DemandTwo : Type 0 where
+  -- "Level, tilt and bend at a pixel are the height and the first and second derivatives of the Sibson element of NISTIR 6718 on that pixel's cell and piece,
+  -- rounded to the nearest unit by our tie rule." What a reading gives at a pixel of the mesh, over 64, 64 and 4,096, and what a run leaves
+  pub levels : {s : List ℕ} {x y : ℕ} {r : Answer} → Accepted s → Inside s x y → Read s x y 0 r →
+      r ≡ answer.Level (quotient (positive 64 tt) (rounded (pixelJet s x y .height)))
+  pub tilts : {s : List ℕ} {x y : ℕ} {r : Answer} → Accepted s → Inside s x y → Read s x y 1 r →
+      r ≡ answer.Tilt (quotient (positive 64 tt) (rounded (pixelJet s x y .xSlope))) (quotient (positive 64 tt) (rounded (pixelJet s x y .ySlope)))
+  pub bends : {s : List ℕ} {x y : ℕ} {r : Answer} → Accepted s → Inside s x y → Read s x y 2 r →
+      r ≡ answer.Bend (quotient (positive 4096 tt) (rounded (pos 64 ·ℚ pixelBend s x y .xx)))
+      (quotient (positive 4096 tt) (rounded (pos 64 ·ℚ pixelBend s x y .xy)))
+      (quotient (positive 4096 tt) (rounded (pos 64 ·ℚ pixelBend s x y .yy)))
+  pub runs : {s : List ℕ} {x y : ℕ} {row row′ : List ℤ} → FillRun s x y row 0 row′ → (k : ℕ) → k < length row →
+      getD row′ k (pos 0) ≡ rounded (pixelJet s (x + k) y .height)
+  -- what a reading gives in C: its values, in the first places of the array, one, two or three
+  pub arrays : {s : List ℕ} {x y kind : ℕ} {array array′ : List Float} (c : ReadInto s x y kind array 0 array′) → length array ≡ 3 →
+      take (suc kind) array′ ≡ outcome (c .reading) .values
+  -- the element of NISTIR 6718: its formulas 105 to 108, put right where 01 says, for the corner numbers of each cell
+  pub source : (s : List ℕ) (i j : ℕ) (k : Piece) (P : Point) →
+      value (setOf s i j k) P ≈ value (halved (nistir.table k) (cornerNumbers (cellOf s i j) (nodesOf s i j))) (nistir.source k P)
+  -- slopes and bends are first and second derivatives
+  pub derivatives : Derivatives
+  -- that pixel's cell and piece
+  pub places : PlaceLaws
+  -- to the nearest unit; a tie goes up
+  pub nearest : (x : ℚ) → whole (rounded x) -ℚ x withinℚ half
+  pub tie : (x : ℚ) (z : ℤ) → x ≈ whole z +ℚ half → rounded x ≡ z +ℤ pos 1
+  -- "A node set to new numbers reads back as those numbers." Looked up, and read at its pixel: the height, in grains, and the slopes
+  pub readsBack : {s t : List ℕ} {i j : ℕ} {v : Node} → SetNode s i j v 0 t → ReadsBack i j v t
+  pub nodeBack : {s t : List ℕ} {i j : ℕ} {v : Node} {u r : RefT (List ℕ)} → SetNode s i j v 0 t → now u ≡ t → NodeCall u i j r → decoded (now r) ≡ v
+  pub levelBack : {s t : List ℕ} {i j : ℕ} {v : Node} {r : Answer} → SetNode s i j v 0 t → Read t (lineX s i) (lineY s j) 0 r →
+      r ≡ answer.Level (quotient (positive 64 tt) (grainsPerStep *ℤ v .storedHeight))
+  pub tiltBack : {s t : List ℕ} {i j : ℕ} {v : Node} {r : Answer} → SetNode s i j v 0 t → Read t (lineX s i) (lineY s j) 1 r →
+      r ≡ answer.Tilt (quotient (positive 64 tt) (v .slopeX)) (quotient (positive 64 tt) (v .slopeY))
+
+-- ---- demand 3
+
+pub record DemandThree : Type 0 where
+  -- "Take any cell, whatever its width and height, and any two sets of four cubics over it, whatever their coefficients, each set meeting along the diagonals
+  -- in height and both slopes, and each with a cross-edge slope that is linear along all four edges. The two are equal, cubic by cubic, exactly when they have
+  -- the same height and slopes at the four corners."
+  pub unique : (C : Cell) (S S′ : FourCubics) → Meets C S → Meets C S′ → (Equal S S′ ↔ SameCorners C S S′)
+  -- linear: no square term is a straight line at all points of the edge
+  pub linear : Linearity
+  -- "On every accepted sheet the set we read from in each cell is the one such set that has the nodes' numbers at the corners;" The
+  -- cell is as wide and high as its lines are apart
+  pub widths : (s : List ℕ) → Accepted s → (i j : ℕ) → HasCell s i j → lineX s i + cellOf s i j .W .number ≡ lineX s (suc i)
+  pub heights : (s : List ℕ) → Accepted s → (i j : ℕ) → HasCell s i j → lineY s j + cellOf s i j .H .number ≡ lineY s (suc j)
+  pub meets : (s : List ℕ) → Accepted s → (i j : ℕ) → HasCell s i j → Meets (cellOf s i j) (setOf s i j)
+  pub nodes : (s : List ℕ) → Accepted s → (i j : ℕ) → HasCell s i j → Has (cellOf s i j) (setOf s i j) (λ c. wholes (nodesOf s i j c))
+  pub only : (s : List ℕ) → Accepted s → (i j : ℕ) → HasCell s i j → (S : FourCubics) → Meets (cellOf s i j) S →
+      Has (cellOf s i j) S (λ c. wholes (nodesOf s i j c)) → Equal S (setOf s i j)
+  -- "any two cells that share an edge agree at every point of it in height and both slopes;" at t of the way from the top, or from the left
+  pub sideBySide : (s : List ℕ) → Accepted s → (i j : ℕ) → HasCell s i j → HasCell s (suc i) j → (t : ℚ) →
+      cellJet s i j right (edge right t) ≋ cellJet s (suc i) j left (edge left t)
+  pub oneAboveTheOther : (s : List ℕ) → Accepted s → (i j : ℕ) → HasCell s i j → HasCell s i (suc j) → (t : ℚ) →
+      cellJet s i j bottom (edge bottom t) ≋ cellJet s i (suc j) top (edge top t)
+  -- "and at every pixel of the mesh each level, tilt and bend lies within half a unit of the exact value of the cubic we read from on the pixel's piece." Of a
+  -- reading, and of a run; from every pixel of the mesh to every one to its right, or itself, a run is not refused
+  pub levels : {s : List ℕ} {x y : ℕ} {r : Answer} → Accepted s → Inside s x y → Read s x y 0 r →
+      HalfUnitsFrom (positive 64 tt) r (pixelJet s x y .height ∷ [])
+  pub tilts : {s : List ℕ} {x y : ℕ} {r : Answer} → Accepted s → Inside s x y → Read s x y 1 r →
+      HalfUnitsFrom (positive 64 tt) r (pixelJet s x y .xSlope ∷ pixelJet s x y .ySlope ∷ [])
+  pub bends : {s : List ℕ} {x y : ℕ} {r : Answer} → Accepted s → Inside s x y → Read s x y 2 r →
+      HalfUnitsFrom (positive 4096 tt) r (pos 64 ·ℚ pixelBend s x y .xx ∷ pos 64 ·ℚ pixelBend s x y .xy ∷ pos 64 ·ℚ pixelBend s x y .yy ∷ [])
+  pub runs : {s : List ℕ} {x y : ℕ} {row row′ : List ℤ} → FillRun s x y row 0 row′ → (k : ℕ) → k < length row →
+      whole (getD row′ k (pos 0)) -ℚ pixelJet s (x + k) y .height withinℚ half
+  pub reached : {s : List ℕ} {x y n : ℕ} {row row′ : List ℤ} (k : ℕ) → Accepted s → Inside s x y → Inside s (x + k) y → length row ≡ suc k →
+      FillRun s x y row n row′ → n ≡ 0
+  -- the pixel's cell and piece
+  pub places : PlaceLaws

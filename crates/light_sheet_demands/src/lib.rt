@@ -1,0 +1,24 @@
+// The customer's three demands, each one theorem. A theorem is the contract of a function that returns 0, so that the gate asks for its proof.
+pub mod calls;
+pub mod calls_for_c;
+
+ghost use mathlib.Core.Path.{_≡_};
+ghost use Rattle.light_sheet_demands.specs.Demands.{DemandOne, DemandTwo, DemandThree};
+
+pub fn demand_one() -> u64
+    ensures { λ r. ⌜ (r ≡ 0) × DemandOne ⌝ }
+{
+    0
+}
+
+pub fn demand_two() -> u64
+    ensures { λ r. ⌜ (r ≡ 0) × DemandTwo ⌝ }
+{
+    0
+}
+
+pub fn demand_three() -> u64
+    ensures { λ r. ⌜ (r ≡ 0) × DemandThree ⌝ }
+{
+    0
+}

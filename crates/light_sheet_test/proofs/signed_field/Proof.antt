@@ -1,9 +1,0 @@
--- `light_sheet_test::signed_field` is safe: 32 bits fit in 64. Assumes nothing.
-use borrow.Author.Needs.{needs}
-use mir.Syntax.{w32, w64}
-use Rattle.integers.proofs.Operand.{any, asks}
-use Rattle.light_sheet_test.proofs.signed_field.Statement.{statement}
-use Rattle.light_sheet_test.proofs.signed_field.Tie as tie
-
-pub signed-field-spec : {M : Type 1} → statement M
-signed-field-spec = tie.close (tie.spec (λ c. asks w64 (any w32 (c .fits .n)) tt) (λ c κs. search needs) (λ c. search needs))

@@ -1,9 +1,0 @@
-// Theorems that belong to no function. Each is the contract of one that returns 0, so that the gate asks for its proof.
-ghost use mathlib.Core.Path.{_≡_};
-ghost use Rattle.listing.specs.Examples.{Examples};
-
-pub fn examples() -> u64
-    ensures { λ r. ⌜ (r ≡ 0) × Examples ⌝ }
-{
-    0
-}

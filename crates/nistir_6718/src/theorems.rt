@@ -1,9 +1,0 @@
-// The theorem belongs to no function. It is the contract of one that returns 0, so that the gate asks for its proof.
-ghost use mathlib.Core.Path.{_≡_};
-ghost use Rattle.nistir_6718.specs.Source.{Sources};
-
-pub fn sources() -> u64
-    ensures { λ r. ⌜ (r ≡ 0) × Sources ⌝ }
-{
-    0
-}

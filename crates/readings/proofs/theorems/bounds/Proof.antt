@@ -1,8 +1,0 @@
--- `readings::theorems::bounds`: how large the readings are. Assumes nothing.
-use mathlib.Core.Path.{refl}
-use Rattle.readings.proofs.Bounds.{bounds}
-use Rattle.readings.proofs.theorems.bounds.Statement.{statement}
-use Rattle.readings.proofs.theorems.bounds.Tie as tie
-
-pub bounds-spec : {M : Type 1} → statement M
-bounds-spec = tie.close (tie.spec (λ c. (refl, bounds)))

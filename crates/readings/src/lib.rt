@@ -1,2 +1,0 @@
-// Readings of a piece: level, tilt and bend, how large they are, and what a corner's height weighs in them. Definitions and theorems; `evaluation` has the code.
-pub mod theorems;

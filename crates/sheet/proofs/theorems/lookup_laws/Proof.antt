@@ -1,8 +1,0 @@
--- `sheet::theorems::lookup_laws` meets its contract. Assumes nothing.
-use mathlib.Core.Path.{refl}
-use Rattle.sheet.proofs.Lookup.{lookup-laws}
-use Rattle.sheet.proofs.theorems.lookup_laws.Statement.{statement}
-use Rattle.sheet.proofs.theorems.lookup_laws.Tie as tie
-
-pub lookup-laws-spec : {M : Type 1} → statement M
-lookup-laws-spec = tie.close (tie.spec (λ c. (refl, lookup-laws)))

@@ -1,8 +1,0 @@
--- `sheet::theorems::refusal_laws` meets its contract. Assumes nothing.
-use mathlib.Core.Path.{refl}
-use Rattle.sheet.proofs.FirstHolds.{refusal-laws}
-use Rattle.sheet.proofs.theorems.refusal_laws.Statement.{statement}
-use Rattle.sheet.proofs.theorems.refusal_laws.Tie as tie
-
-pub refusal-laws-spec : {M : Type 1} → statement M
-refusal-laws-spec = tie.close (tie.spec (λ c. (refl, refusal-laws)))

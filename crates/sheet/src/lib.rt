@@ -1,2 +1,0 @@
-// The bytes of a sheet, when a call is refused, and what looking up and setting a node do. Definitions and theorems; `checking` and `nodes` have the code.
-pub mod theorems;

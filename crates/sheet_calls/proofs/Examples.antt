@@ -1,0 +1,54 @@
+-- The examples, computed. Assumes nothing.
+use mathlib.Core.Path.{_≡_, refl}
+use mathlib.Core.List.{map}
+use Rattle.sheet_words.specs.Word.{signed, bitsOf, bytesOf}
+use Rattle.sheet_calls.specs.Format.{marked, supported, countIn, decoded, encoded, heightIn, slopeIn, nodeIn, nodeAt, heightAt, slopeXAt, slopeYAt}
+use Rattle.sheet_calls.specs.Refusals.{some, otherMark, otherVersion, otherCounts, otherLength, wrongStep, wrongLine, wrongLines, wrongNodes, outside, offMesh, emptyRun, otherKind, noNode, wrongNumbers, table, first, member, part, checkRefusal, lookupRefusal, settingRefusal, readingRefusal, runRefusal}
+use Rattle.sheet_calls.specs.Calls.{lookedUp, withNode}
+use Rattle.sheet_calls.specs.Examples.{checked, Examples}
+
+checks : map (λ e. checkRefusal (e .sheet)) checked ≡ map (λ e. e .gives) checked
+unfolding signed marked supported countIn decoded heightIn slopeIn nodeIn nodeAt some otherMark otherVersion otherCounts otherLength wrongStep wrongLine wrongLines wrongNodes table first member part checkRefusal
+checks = refl
+
+pub examples : Examples
+unfolding signed bitsOf bytesOf marked supported countIn decoded encoded heightIn slopeIn nodeIn nodeAt heightAt slopeXAt slopeYAt some otherMark otherVersion otherCounts otherLength wrongStep wrongLine wrongLines wrongNodes outside offMesh emptyRun otherKind noNode wrongNumbers table first member part lookupRefusal settingRefusal readingRefusal runRefusal lookedUp withNode
+examples = record {
+  checks = checks;
+  corner = refl;
+  grains = refl;
+  lower = refl;
+  lastNode = refl;
+  columnTooFar = refl;
+  rowTooFar = refl;
+  farthest = refl;
+  nothing = refl;
+  noSheet = refl;
+  setLast = refl;
+  tooHigh = refl;
+  tooSteep = refl;
+  placeFirst = refl;
+  untouched = refl;
+  kindThree = refl;
+  outsideFirst = refl;
+  wholeRow = refl;
+  oneTooMany = refl;
+  noPixel = refl;
+  noPixelOutside = refl;
+  rowEnd = refl;
+  rowStart = refl;
+  alongX = refl;
+  alongY = refl;
+  thirdColumn = refl;
+  thirdRow = refl;
+  leftTop = refl;
+  rightBottom = refl;
+  leftOf = refl;
+  above = refl;
+  below = refl;
+  farKind = refl;
+  toTheEnd = refl;
+  beyond = refl;
+  fromOutside = refl;
+  veryLong = refl;
+}

@@ -1,0 +1,44 @@
+-- What a test says where it fails, or where it holds, in both directions. Assumes nothing.
+use Prim.Native.Nat.{ℕ, _≤_, _<_}
+use mathlib.Core.Path.{_≡_}
+use mathlib.Core.Logic.{_↔_}
+use mathlib.Core.Bool.{Bool, true, false, not, _&&_, _||_, and-eq-true-iff}
+use mathlib.Mathlib.Data.Bool.Basic.{or-eq-false-eq-eq-false-and-eq-false}
+use lib.Dec.{ltb, leb, eqb}
+use borrow.Author.Tests.{ltb-false, leb-true, leb-false, eqb-true, le-ltb, le-leb, lt-leb, eq-eqb, not-false}
+use Rattle.sheet_calls.specs.Refusals.{some}
+use Rattle.sheet_calls.proofs.Some.{some-false, some-false-at}
+
+-- ---- where it fails
+
+pub ltb-fails : (a b : ℕ) → (ltb a b ≡ false) ↔ (b ≤ a)
+ltb-fails a b = (ltb-false a b, le-ltb a b)
+
+pub leb-fails : (a b : ℕ) → (leb a b ≡ false) ↔ (b < a)
+leb-fails a b = (leb-false a b, lt-leb a b)
+
+pub not-fails : {b : Bool} {B : Type 0} → (b ≡ true) ↔ B → (not b ≡ false) ↔ B
+not-fails {b} h = (λ e. h .0 (not-false b e), λ x. rw (h .1 x))
+
+pub or-fails : {a b : Bool} {A B : Type 0} → (a ≡ false) ↔ A → (b ≡ false) ↔ B → (a || b ≡ false) ↔ (A × B)
+or-fails {a} {b} h k = (
+  λ e. let (f, g) = or-eq-false-eq-eq-false-and-eq-false a b .0 e in (h .0 f, k .0 g),
+  λ x. rw (h .1 (x .0)) (k .1 (x .1)),
+)
+
+pub some-fails : {p : ℕ → Bool} {P : ℕ → Type 0} (n : ℕ) → ((k : ℕ) → (p k ≡ false) ↔ P k) → (some p n ≡ false) ↔ ((k : ℕ) → k < n → P k)
+some-fails {p} n h = (λ e k l. h k .0 (some-false-at p n e k l), λ f. some-false p n (λ k l. h k .1 (f k l)))
+
+-- ---- where it holds
+
+pub leb-holds : (a b : ℕ) → (leb a b ≡ true) ↔ (a ≤ b)
+leb-holds a b = (leb-true a b, le-leb a b)
+
+pub eqb-holds : (a b : ℕ) → (eqb a b ≡ true) ↔ (a ≡ b)
+eqb-holds a b = (eqb-true a b, eq-eqb a b)
+
+pub and-holds : {a b : Bool} {A B : Type 0} → (a ≡ true) ↔ A → (b ≡ true) ↔ B → (a && b ≡ true) ↔ (A × B)
+and-holds {a} {b} h k = (
+  λ e. let (f, g) = and-eq-true-iff a b .0 e in (h .0 f, k .0 g),
+  λ x. rw (h .1 (x .0)) (k .1 (x .1)),
+)

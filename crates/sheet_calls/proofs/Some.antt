@@ -1,0 +1,22 @@
+-- The laws of `some`: it is false exactly when the test is false of every number below n. Assumes nothing.
+use Prim.Native.Nat.{ℕ, zero, suc, _<_}
+use mathlib.Core.Path.{_≡_, refl}
+use mathlib.Core.Logic.{⊎-elim}
+use mathlib.Core.Bool.{Bool, false}
+use mathlib.Mathlib.Data.Bool.Basic.{or-eq-false-eq-eq-false-and-eq-false}
+use native.Mathlib.Nat.{le-of-suc-le-suc, le-step, lt-suc-self, eq-or-lt-of-le}
+use native.Mathlib.Omega.{arith}
+use Rattle.sheet_calls.specs.Refusals.{some}
+
+module _ (p : ℕ → Bool) where
+  pub some-false-at : (n : ℕ) → some p n ≡ false → (k : ℕ) → k < n → p k ≡ false
+  unfolding some
+  some-false-at zero e k l = absurd (omega arith)
+  some-false-at (suc n) e k l =
+      let h = or-eq-false-eq-eq-false-and-eq-false (some p n) (p n) .0 e in
+      ⊎-elim (λ q. rw q (h .1)) (some-false-at n (h .0) k) (eq-or-lt-of-le (le-of-suc-le-suc l))
+
+  pub some-false : (n : ℕ) → ((k : ℕ) → k < n → p k ≡ false) → some p n ≡ false
+  unfolding some
+  some-false zero h = refl
+  some-false (suc n) h = rw (some-false n (λ k l. h k (le-step l))) (h n (lt-suc-self n))

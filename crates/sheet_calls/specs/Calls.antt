@@ -1,0 +1,42 @@
+-- What looking up a node hands back and what setting one leaves, for every input. Assumes nothing.
+use Prim.Native.Nat.{ℕ, _+_}
+use mathlib.Core.Path.{_≡_}
+use mathlib.Core.List.{List}
+use mathlib.Core.Bool.{cond}
+use lib.ListN.{take, drop}
+use lib.Dec.{eqb}
+use denote.Ref.{RefT, ptr, now}
+use Rattle.sheet_words.specs.Word.{replaced}
+use Rattle.sheet_calls.specs.Format.{Node, encoded, nodeSize, nodeOffset}
+use Rattle.sheet_calls.specs.Refusals.{lookupRefusal, settingRefusal}
+
+-- ---- looking up
+
+-- a stretch of bytes: where it starts and how many they are
+pub record Span : Type 0 where
+  pub start : ℕ
+  pub size : ℕ
+
+-- n bytes from index a on
+abbrev pub span : ℕ → ℕ → Span
+span a n = record { start = a; size = n }
+
+-- the node's bytes, or, refused, none from the start
+unfoldable pub lookedUp : List ℕ → ℕ → ℕ → Span
+lookedUp s i j = cond (eqb (lookupRefusal s i j) 0) (span (nodeOffset s i j) nodeSize) (span 0 0)
+
+-- the bytes of a span
+abbrev pub bytesIn : List ℕ → Span → List ℕ
+bytesIn s p = take (p .size) (drop (p .start) s)
+
+-- r is that part of the slice s itself: the same bytes, in the same block of memory, from the span's start on
+pub record Part (s r : RefT (List ℕ)) (p : Span) : Type 0 where
+  pub bytes : now r ≡ bytesIn (now s) p
+  pub block : ptr r .0 ≡ ptr s .0
+  pub place : ptr r .1 ≡ p .start + ptr s .1
+
+-- ---- setting
+
+-- s with the node's bytes anew, or, refused, as it was
+unfoldable pub withNode : List ℕ → ℕ → ℕ → Node → List ℕ
+withNode s i j v = cond (eqb (settingRefusal s i j v) 0) (replaced s (nodeOffset s i j) (encoded v)) s

@@ -1,0 +1,12 @@
+-- `sheet_checking::in_counts` meets its contract. Assumes nothing.
+use mathlib.Core.Path.{refl}
+use Rattle.sheet_calls.specs.Format.{countIn}
+use Rattle.sheet_checking.proofs.in_counts.Statement.{statement}
+use Rattle.sheet_checking.proofs.in_counts.Tie as tie
+
+returns : tie.Need-returns
+unfolding countIn
+returns c = refl
+
+pub in-counts-spec : {M : Type 1} → statement M
+in-counts-spec = tie.close (tie.spec returns)

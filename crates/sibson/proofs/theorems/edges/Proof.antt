@@ -1,8 +1,0 @@
--- `sibson::theorems::edges`: two cells that share an edge agree along it. Assumes nothing.
-use mathlib.Core.Path.{refl}
-use Rattle.sibson.proofs.SharedEdges.{edges}
-use Rattle.sibson.proofs.theorems.edges.Statement.{statement}
-use Rattle.sibson.proofs.theorems.edges.Tie as tie
-
-pub edges-spec : {M : Type 1} → statement M
-edges-spec = tie.close (tie.spec (λ c. (refl, edges)))

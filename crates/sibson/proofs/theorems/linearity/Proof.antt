@@ -1,8 +1,0 @@
--- `sibson::theorems::linearity`: no square term is a straight line. Assumes nothing.
-use mathlib.Core.Path.{refl}
-use Rattle.sibson.proofs.Linearity.{linearity}
-use Rattle.sibson.proofs.theorems.linearity.Statement.{statement}
-use Rattle.sibson.proofs.theorems.linearity.Tie as tie
-
-pub linearity-spec : {M : Type 1} → statement M
-linearity-spec = tie.close (tie.spec (λ c. (refl, linearity)))

@@ -1,8 +1,0 @@
--- `sibson::theorems::turnings`: turned cubics are the cubics at turned points. Assumes nothing.
-use mathlib.Core.Path.{refl}
-use Rattle.sibson.proofs.Turnings.{turnings}
-use Rattle.sibson.proofs.theorems.turnings.Statement.{statement}
-use Rattle.sibson.proofs.theorems.turnings.Tie as tie
-
-pub turnings-spec : {M : Type 1} → statement M
-turnings-spec = tie.close (tie.spec (λ c. (refl, turnings)))

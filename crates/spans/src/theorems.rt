@@ -1,9 +1,0 @@
-// A theorem that belongs to no function is the contract of one that returns 0, so that the gate asks for its proof.
-ghost use mathlib.Core.Path.{_≡_};
-ghost use Rattle.spans.specs.Span.{SpanLaws};
-
-pub fn span_laws() -> u64
-    ensures { λ r. ⌜ (r ≡ 0) × SpanLaws ⌝ }
-{
-    0
-}

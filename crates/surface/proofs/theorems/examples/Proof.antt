@@ -1,8 +1,0 @@
--- `surface::theorems::examples`: the examples hold. Assumes nothing.
-use mathlib.Core.Path.{refl}
-use Rattle.surface.proofs.Worked.{examples}
-use Rattle.surface.proofs.theorems.examples.Statement.{statement}
-use Rattle.surface.proofs.theorems.examples.Tie as tie
-
-pub examples-spec : {M : Type 1} → statement M
-examples-spec = tie.close (tie.spec (λ c. (refl, examples)))

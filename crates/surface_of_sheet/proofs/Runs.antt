@@ -1,0 +1,81 @@
+-- What a run leaves: the row as it was where it is refused, else in each place the level of its pixel. Assumes nothing.
+use Prim.Native.Nat.{ℕ, zero, suc, _+_, _<_}
+use mathlib.Core.Path.{_≡_, refl, sym, _∙_, ap}
+use mathlib.Core.List.{List, [], _∷_, append-nil}
+use native.Mathlib.Decide.{ℕ-discrete}
+use native.Mathlib.Nat.{add-zero, add-suc, suc-add}
+use native.Mathlib.Omega.{arith}
+use lib.IntN.{ℤ, pos}
+use lib.ListN.{length, getD, set}
+use lib.Seq.{drop-length}
+use borrow.Author.Tests.{eq-eqb, ne-eqb}
+use Rattle.sheet_calls.specs.Refusals.{runRefusal}
+use Rattle.sheet_calls.proofs.Chains.{run-held, run-taken}
+use Rattle.surface_of_sheet.specs.Surface.{level}
+use Rattle.surface_of_sheet.specs.Run.{levelsAlong, begun, filled}
+use Rattle.surface_of_sheet.specs.Theorems.{RunLaws}
+
+-- one place further along is the pixel one further to the right
+next : (s : List ℕ) (x y k : ℕ) → level s (suc x + k) y ≡ level s (x + suc k) y
+next s x y k = ap (λ n. level s n y) (suc-add x k ∙ sym (add-suc x k))
+
+-- ---- the levels along a row
+
+pub levels-length : (s : List ℕ) (x y count : ℕ) → length (levelsAlong s x y count) ≡ count
+unfolding levelsAlong
+levels-length s x y zero = refl
+levels-length s x y (suc count) = ap suc (levels-length s (suc x) y count)
+
+pub levels-at : (s : List ℕ) (x y count k : ℕ) → k < count → getD (levelsAlong s x y count) k (pos 0) ≡ level s (x + k) y
+unfolding levelsAlong
+levels-at s x y zero k h = absurd (omega (arith, h))
+levels-at s x y (suc count) zero h = rw (add-zero x) refl
+levels-at s x y (suc count) (suc k) h = levels-at s (suc x) y count k (omega (arith, h)) ∙ next s x y k
+
+-- ---- a row of which some places are done
+
+pub none-done : (s : List ℕ) (x y : ℕ) (row : List ℤ) → begun s x y 0 row ≡ row
+unfolding levelsAlong begun
+none-done s x y row = refl
+
+pub one-more : (s : List ℕ) (x y k : ℕ) (row : List ℤ) → k < length row → begun s x y (suc k) row ≡ set (begun s x y k row) k (level s (x + k) y)
+unfolding levelsAlong begun
+one-more s x y k [] h = absurd (omega (arith, h))
+one-more s x y zero (z ∷ row) h = rw (add-zero x) refl
+one-more s x y (suc k) (z ∷ row) h =
+    ap (λ (r : List ℤ). level s x y ∷ r) (one-more s (suc x) y k row (omega (arith, h)) ∙ ap (set (begun s (suc x) y k row) k) (next s x y k))
+
+all-done : (s : List ℕ) (x y : ℕ) (row : List ℤ) → begun s x y (length row) row ≡ levelsAlong s x y (length row)
+unfolding begun
+all-done s x y row = rw (drop-length row) (append-nil (levelsAlong s x y (length row)))
+
+-- ---- the row of a run
+
+module _ (s : List ℕ) (x y : ℕ) (row : List ℤ) where
+  pub filled-is : runRefusal s x y (length row) ≡ 0 → filled s x y row ≡ levelsAlong s x y (length row)
+  unfolding filled
+  filled-is e = rw (eq-eqb _ 0 e) refl
+
+  pub unfilled-is : ¬ (runRefusal s x y (length row) ≡ 0) → filled s x y row ≡ row
+  unfolding filled
+  unfilled-is h = rw (ne-eqb _ 0 h) refl
+
+  size : length (filled s x y row) ≡ length row
+  size =
+      elim (ℕ-discrete (runRefusal s x y (length row)) 0) [
+        | yes e ↦ rw (filled-is e) (levels-length s x y (length row))
+        | no h ↦ rw (unfilled-is h) refl
+      ]
+
+pub run-laws : RunLaws
+run-laws = record {
+  size = size;
+  refused = unfilled-is;
+  accepted = λ s x y count e. run-held s x y count e .accepted;
+  inside = λ s x y count e. run-held s x y count e .each;
+  levels = λ s x y row e k l. rw (filled-is s x y row e) (levels-at s x y (length row) k l);
+  taken = run-taken;
+  none = none-done;
+  oneMore = one-more;
+  all = all-done;
+}

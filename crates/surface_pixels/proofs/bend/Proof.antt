@@ -1,0 +1,39 @@
+-- `surface_pixels::bend` meets its contract. Assumes nothing.
+use mathlib.Core.Path.{_≡_, _∙_, subst⁻¹}
+use mathlib.Core.List.{[], _∷_}
+use borrow.Author.Needs.{needs}
+use mir.Syntax.{w64}
+use Rattle.integers.proofs.Operand.{unchanged}
+use Rattle.element_readings.specs.Reading.{bendXX, bendXY, bendYY}
+use Rattle.element_turnings.specs.Doubled.{halves}
+use Rattle.element_evaluation.specs.Pixels.{cellOf, pointOf}
+use Rattle.surface_answers.specs.Answers.{answered, Small}
+use Rattle.surface_pixels.proofs.bend.Statement.{statement}
+use Rattle.surface_pixels.proofs.bend.Tie as tie
+
+is-xx : (c : tie.After-new) → let a = c .before .before .before .before .args in c .new .result .xx ≡ bendXX (cellOf (a .p)) (halves (a .k)) (pointOf (a .p))
+is-xx c = let d = c .before .before .before in c .new .ensures .0 ∙ unchanged w64 (d .bend-xx .ok) ∙ d .bend-xx .ensures
+
+is-xy : (c : tie.After-new) → let a = c .before .before .before .before .args in c .new .result .xy ≡ bendXY (cellOf (a .p)) (halves (a .k)) (pointOf (a .p))
+is-xy c = let d = c .before .before in c .new .ensures .1 ∙ unchanged w64 (d .bend-xy .ok) ∙ d .bend-xy .ensures
+
+is-yy : (c : tie.After-new) → let a = c .before .before .before .before .args in c .new .result .yy ≡ bendYY (cellOf (a .p)) (halves (a .k)) (pointOf (a .p))
+is-yy c = let d = c .before in c .new .ensures .2 ∙ unchanged w64 (d .bend-yy .ok) ∙ d .bend-yy .ensures
+
+answer-requires : tie.Need-answer-requires
+answer-requires c κs =
+    let p = c .before .before .before .before .pre in (subst⁻¹ Small (is-xx c) (p .2), subst⁻¹ Small (is-xy c) (p .3), subst⁻¹ Small (is-yy c) (p .4))
+
+returns : tie.Need-returns
+returns c = c .answer .ensures ∙ (λ t. answered 2 (is-xx (c .before) t ∷ is-xy (c .before) t ∷ is-yy (c .before) t ∷ []))
+
+pub bend-spec : {M : Type 1} → statement M
+bend-spec =
+    tie.close
+    (tie.spec
+    (λ c κs. search needs)
+    (λ c κs. search needs)
+    (λ c κs. search needs)
+    (λ c κs. search needs)
+    answer-requires
+    returns)

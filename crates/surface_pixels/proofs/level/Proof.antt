@@ -1,0 +1,24 @@
+-- `surface_pixels::level` meets its contract. Assumes nothing.
+use mathlib.Core.Path.{_≡_, _∙_, ap, subst⁻¹}
+use mathlib.Core.List.{[], _∷_}
+use borrow.Author.Needs.{needs}
+use mir.Syntax.{w64}
+use Rattle.integers.proofs.Operand.{unchanged}
+use Rattle.element_readings.specs.Reading.{level}
+use Rattle.element_turnings.specs.Doubled.{halves}
+use Rattle.element_evaluation.specs.Pixels.{cellOf, pointOf}
+use Rattle.surface_answers.specs.Answers.{answered, Small}
+use Rattle.surface_pixels.proofs.level.Statement.{statement}
+use Rattle.surface_pixels.proofs.level.Tie as tie
+
+is : (c : tie.After-new) → let a = c .before .before .args in c .new .result .height ≡ level (cellOf (a .p)) (halves (a .k)) (pointOf (a .p))
+is c = c .new .ensures ∙ unchanged w64 (c .before .level .ok) ∙ c .before .level .ensures
+
+answer-requires : tie.Need-answer-requires
+answer-requires c κs = subst⁻¹ Small (is c) (c .before .before .pre .2)
+
+returns : tie.Need-returns
+returns c = c .answer .ensures ∙ ap (λ z. answered 0 (z ∷ [])) (is (c .before))
+
+pub level-spec : {M : Type 1} → statement M
+level-spec = tie.close (tie.spec (λ c κs. search needs) (λ c κs. search needs) answer-requires returns)

@@ -1,0 +1,31 @@
+-- `surface_pixels::tilt` meets its contract. Assumes nothing.
+use mathlib.Core.Path.{_≡_, _∙_, ap₂, subst⁻¹}
+use mathlib.Core.List.{[], _∷_}
+use borrow.Author.Needs.{needs}
+use mir.Syntax.{w64}
+use Rattle.integers.proofs.Operand.{unchanged}
+use Rattle.element_readings.specs.Reading.{tiltX, tiltY}
+use Rattle.element_turnings.specs.Doubled.{halves}
+use Rattle.element_evaluation.specs.Pixels.{cellOf, pointOf}
+use Rattle.surface_answers.specs.Answers.{answered, Small}
+use Rattle.surface_pixels.proofs.tilt.Statement.{statement}
+use Rattle.surface_pixels.proofs.tilt.Tie as tie
+
+is-x : (c : tie.After-new) → let a = c .before .before .before .args in c .new .result .x ≡ tiltX (cellOf (a .p)) (halves (a .k)) (pointOf (a .p))
+is-x c = c .new .ensures .0 ∙ unchanged w64 (c .before .before .tilt-x .ok) ∙ c .before .before .tilt-x .ensures
+
+is-y : (c : tie.After-new) → let a = c .before .before .before .args in c .new .result .y ≡ tiltY (cellOf (a .p)) (halves (a .k)) (pointOf (a .p))
+is-y c = c .new .ensures .1 ∙ unchanged w64 (c .before .tilt-y .ok) ∙ c .before .tilt-y .ensures
+
+answer-requires : tie.Need-answer-requires
+answer-requires c κs = let p = c .before .before .before .pre in (subst⁻¹ Small (is-x c) (p .2), subst⁻¹ Small (is-y c) (p .3))
+
+pub tilt-spec : {M : Type 1} → statement M
+tilt-spec =
+    tie.close
+    (tie.spec
+    (λ c κs. search needs)
+    (λ c κs. search needs)
+    (λ c κs. search needs)
+    answer-requires
+    (λ c. c .answer .ensures ∙ ap₂ (λ x y. answered 1 (x ∷ y ∷ [])) (is-x (c .before)) (is-y (c .before))))

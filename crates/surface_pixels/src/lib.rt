@@ -1,0 +1,134 @@
+// Reading at a pixel: the level, the tilt or the bend, or the number of a refusal.
+ghost use mathlib.Core.Path.{_≡_};
+ghost use mathlib.Core.List.{[], _∷_};
+ghost use Rattle.element_readings.specs.Reading.{level, tiltX, tiltY, bendXX, bendXY, bendYY};
+ghost use Rattle.element_turnings.specs.Doubled.{halves, Sized};
+ghost use Rattle.element_evaluation.specs.Pixels.{cellOf, pointOf, Inside};
+ghost use Rattle.sheet_calls.specs.Refusals.{readingRefusal, Accepted};
+ghost use Rattle.sheet_calls.specs.WellFormed as mesh;
+ghost use Rattle.surface_answers.specs.Answers.{outcome, answered, Small};
+ghost use Rattle.surface_of_sheet.specs.Place.{place};
+ghost use Rattle.surface_of_sheet.specs.Surface as surface;
+ghost use Rattle.surface_of_sheet.specs.Read.{numbers, read};
+ghost use Rattle.surface_pixels.specs.Located.{located};
+use element_evaluation::Pixel;
+use sheet_checking::check;
+use surface_answers::Answer;
+use surface_answers::BendReading;
+use surface_answers::LevelReading;
+use surface_answers::TiltReading;
+use surface_places::find;
+use surface_places::outside;
+
+// The cubic that a pixel is read from, by its doubled coefficients, and the pixel in its cell.
+struct LocatedCubic {
+    coefficients: [i64; 10],
+    pixel: Pixel,
+}
+
+// What the light board asks: kind 0 is the level, 1 the tilt, 2 the bend.
+pub fn read(sheet: &[u8], x: u32, y: u32, kind: u32) -> Answer
+    ensures { λ r. ⌜ outcome r ≡ read (now (sheet .entry)) x y kind ⌝ }
+{
+    let refusal = read_refusal(sheet, x, y, kind);
+    if refusal != 0 {
+        return Answer::Refused(refusal);
+    }
+    reading(sheet, x, y, kind)
+}
+
+// The level and the tilt along x and y at a pixel of the mesh, as whole numbers.
+pub fn level_and_tilt(sheet: &[u8], x: u32, y: u32) -> [i64; 3]
+    requires { ⌜ Accepted (now sheet) × mesh.Inside (now sheet) x y ⌝ }
+    ensures { λ r. ⌜ r ≡ surface.level (now (sheet .entry)) x y ∷ surface.tiltX (now (sheet .entry)) x y ∷ surface.tiltY (now (sheet .entry)) x y ∷ [] ⌝ }
+{
+    let cubic = locate(sheet, x, y);
+    let k = cubic.coefficients;
+    let p = cubic.pixel;
+    [
+        element_evaluation::level(k, p),
+        element_evaluation::tilt_x(k, p),
+        element_evaluation::tilt_y(k, p),
+    ]
+}
+
+// The number that refuses the reading, or 0.
+fn read_refusal(sheet: &[u8], x: u32, y: u32, kind: u32) -> u32
+    ensures { λ r. ⌜ r ≡ readingRefusal (now (sheet .entry)) x y kind ⌝ }
+{
+    let refusal = check(sheet);
+    if refusal != 0 {
+        return refusal;
+    }
+    if outside(sheet, x, y) {
+        return 7;
+    }
+    if 2 < kind {
+        return 9;
+    }
+    0
+}
+
+// A reading that is not refused.
+fn reading(sheet: &[u8], x: u32, y: u32, kind: u32) -> Answer
+    requires { ⌜ readingRefusal (now sheet) x y kind ≡ 0 ⌝ }
+    ensures { λ r. ⌜ outcome r ≡ answered kind (numbers (now (sheet .entry)) x y kind) ⌝ }
+{
+    let cubic = locate(sheet, x, y);
+    let k = cubic.coefficients;
+    let p = cubic.pixel;
+    if kind == 0 {
+        return level(k, p);
+    }
+    if kind == 1 {
+        return tilt(k, p);
+    }
+    bend(k, p)
+}
+
+// The cubic on the pixel's cell and piece.
+fn locate(sheet: &[u8], x: u32, y: u32) -> LocatedCubic
+    requires { ⌜ Accepted (now sheet) × mesh.Inside (now sheet) x y ⌝ }
+    ensures { λ r. ⌜ r ≡ located (now (sheet .entry)) (place (now (sheet .entry)) x y) ⌝ }
+{
+    let place = find(sheet, x, y);
+    let p = place.pixel;
+    let piece = place.piece;
+    let n = surface_cells::corner_numbers(sheet, place.column, place.row, p.width, p.height);
+    LocatedCubic {
+        coefficients: element_pieces::coefficients(n, piece),
+        pixel: p,
+    }
+}
+
+// Of the cubic with these doubled coefficients: the level, the tilt along x and y, the bend along x, mixed and along y.
+fn level(k: [i64; 10], p: Pixel) -> Answer
+    requires { ⌜ Sized k × Inside p × Small (level (cellOf p) (halves k) (pointOf p)) ⌝ }
+    ensures { λ r. ⌜ outcome r ≡ answered 0 (level (cellOf p) (halves k) (pointOf p) ∷ []) ⌝ }
+{
+    let reading = LevelReading::new(element_evaluation::level(k, p));
+    reading.answer()
+}
+
+fn tilt(k: [i64; 10], p: Pixel) -> Answer
+    requires { ⌜ Sized k × Inside p × Small (tiltX (cellOf p) (halves k) (pointOf p)) × Small (tiltY (cellOf p) (halves k) (pointOf p)) ⌝ }
+    ensures { λ r. ⌜ outcome r ≡ answered 1 (tiltX (cellOf p) (halves k) (pointOf p) ∷ tiltY (cellOf p) (halves k) (pointOf p) ∷ []) ⌝ }
+{
+    let reading = TiltReading::new(
+        element_evaluation::tilt_x(k, p),
+        element_evaluation::tilt_y(k, p),
+    );
+    reading.answer()
+}
+
+fn bend(k: [i64; 10], p: Pixel) -> Answer
+    requires { ⌜ Sized k × Inside p × Small (bendXX (cellOf p) (halves k) (pointOf p)) × Small (bendXY (cellOf p) (halves k) (pointOf p)) × Small (bendYY (cellOf p) (halves k) (pointOf p)) ⌝ }
+    ensures { λ r. ⌜ outcome r ≡ answered 2 (bendXX (cellOf p) (halves k) (pointOf p) ∷ bendXY (cellOf p) (halves k) (pointOf p) ∷ bendYY (cellOf p) (halves k) (pointOf p) ∷ []) ⌝ }
+{
+    let reading = BendReading::new(
+        element_evaluation::bend_xx(k, p),
+        element_evaluation::bend_xy(k, p),
+        element_evaluation::bend_yy(k, p),
+    );
+    reading.answer()
+}

@@ -1,0 +1,128 @@
+// Where a pixel lies on an accepted sheet: outside the mesh, or in a cell, at offsets in it, in a piece of it.
+ghost use mathlib.Core.Path.{_≡_};
+ghost use Prim.Native.Nat.{_-_};
+ghost use Rattle.element_sibson.specs.Piece.{pieceAt};
+ghost use Rattle.sheet_calls.specs.Refusals.{outside, Accepted};
+ghost use Rattle.sheet_calls.specs.WellFormed.{Inside};
+ghost use Rattle.element_pieces.specs.Parts.{named};
+ghost use Rattle.element_evaluation.specs.Pixels as pixels;
+ghost use Rattle.surface_of_sheet.specs.Place.{cellAlong, place};
+ghost use Rattle.surface_places.specs.Found.{lineFrom, Axis, Between, offAxis, onAxis, holding};
+use element_evaluation::Pixel;
+use element_pieces::Piece;
+use sheet_checking::HEADER_SIZE;
+use sheet_checking::columns;
+use sheet_checking::rows;
+use sheet_words::word;
+
+// The cell of a pixel by its column and row, the pixel in that cell, and the piece that it is read from.
+pub struct Place {
+    pub column: usize,
+    pub row: usize,
+    pub pixel: Pixel,
+    pub piece: Piece,
+}
+
+// The cell along one axis, the offset from its first line, and the cell's size.
+struct OnAxis {
+    cell: usize,
+    offset: usize,
+    size: usize,
+}
+
+// Whether the pixel lies outside the mesh.
+pub fn outside(sheet: &[u8], x: u32, y: u32) -> bool
+    requires { ⌜ Accepted (now sheet) ⌝ }
+    ensures { λ r. ⌜ r ≡ outside (now (sheet .entry)) x y ⌝ }
+{
+    let m = columns(sheet);
+    let n = rows(sheet);
+    let y_lines = HEADER_SIZE + 2 * m;
+    off_axis(sheet, HEADER_SIZE, m, x) | off_axis(sheet, y_lines, n, y)
+}
+
+// The place of a pixel of the mesh.
+pub fn find(sheet: &[u8], x: u32, y: u32) -> Place
+    requires { ⌜ Accepted (now sheet) × Inside (now sheet) x y ⌝ }
+    ensures { λ r. ⌜ r ≡ holding (now (sheet .entry)) (place (now (sheet .entry)) x y) ⌝ }
+{
+    let m = columns(sheet);
+    let n = rows(sheet);
+    let y_lines = HEADER_SIZE + 2 * m;
+    let across = on_axis(sheet, HEADER_SIZE, m, x);
+    let down = on_axis(sheet, y_lines, n, y);
+    let pixel = Pixel {
+        a: across.offset,
+        b: down.offset,
+        width: across.size,
+        height: down.size,
+    };
+    Place {
+        column: across.cell,
+        row: down.cell,
+        pixel: pixel,
+        piece: piece(pixel),
+    }
+}
+
+// The lowest piece that holds the pixel.
+pub fn piece(p: Pixel) -> Piece
+    requires { ⌜ pixels.Inside p ⌝ }
+    ensures { λ r. ⌜ r ≡ named (pieceAt (pixels.pointOf p)) ⌝ }
+{
+    // r, s and 1, times the cell's area
+    let x = p.a * p.height;
+    let y = p.b * p.width;
+    let q = p.width * p.height;
+    if y <= x {
+        if x + y <= q {
+            return Piece::Top;
+        }
+        return Piece::Right;
+    }
+    if q <= x + y {
+        return Piece::Bottom;
+    }
+    Piece::Left
+}
+
+// Whether a position lies before an axis's first line or beyond its last.
+fn off_axis(sheet: &[u8], start: usize, lines: usize, position: u32) -> bool
+    requires { ⌜ Axis (now sheet) start lines ⌝ }
+    ensures { λ r. ⌜ r ≡ offAxis (lineFrom (now (sheet .entry)) start) lines position ⌝ }
+{
+    (position < word(sheet, start)) | (word(sheet, start + 2 * lines - 2) < position)
+}
+
+// Where a position between the first and the last line of an axis lies.
+fn on_axis(sheet: &[u8], start: usize, lines: usize, position: u32) -> OnAxis
+    requires { ⌜ Axis (now sheet) start lines × Between (lineFrom (now sheet) start) lines position ⌝ }
+    ensures { λ r. ⌜ r ≡ onAxis (lineFrom (now (sheet .entry)) start) (lines - 2) position ⌝ }
+{
+    let cell = cell_along(sheet, start, lines, position);
+    let before = word(sheet, start + 2 * cell);
+    let after = word(sheet, start + 2 * cell + 2);
+    OnAxis {
+        cell: cell,
+        offset: (position - before) as usize,
+        size: (after - before) as usize,
+    }
+}
+
+// The last cell that starts at or before the position, by halving: `low` does, and `high` is the last line or lies beyond the position.
+fn cell_along(sheet: &[u8], start: usize, lines: usize, position: u32) -> usize
+    requires { ⌜ Axis (now sheet) start lines × Between (lineFrom (now sheet) start) lines position ⌝ }
+    ensures { λ r. ⌜ r ≡ cellAlong (lineFrom (now (sheet .entry)) start) (lines - 2) position ⌝ }
+{
+    let mut low: usize = 0;
+    let mut high = lines - 1;
+    while low + 1 < high {
+        let middle = (low + high) / 2;
+        if word(sheet, start + 2 * middle) <= position {
+            low = middle;
+        } else {
+            high = middle;
+        }
+    }
+    low
+}

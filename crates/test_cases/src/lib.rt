@@ -1,0 +1,58 @@
+// For the test programs that make calls of a light sheet: parts and numbers of their input, the low byte first, a copy of a sheet, and what every line of
+// their output has, as in tests/vectors/calls.txt.
+ghost use Prim.Native.Nat.{_≤_};
+ghost use Rattle.io.specs.Counts.{Counts};
+use libc::STDIN_FILENO;
+use libc::STDOUT_FILENO;
+use sheet_words::wide;
+
+// Reads a part of the input of this size, or as much of it as the buffer holds, to the start of the buffer, and answers how many bytes that are.
+pub fn part(size: u32, to: &mut [u8]) -> usize
+    ensures { λ r. ⌜ Counts r (now (to .exit)) ⌝ }
+{
+    let count = least(size as usize, to.len());
+    io::read_full(STDIN_FILENO, &mut to[0..count]);
+    count
+}
+
+fn least(a: usize, b: usize) -> usize
+    ensures { λ r. ⌜ (r ≤ a) × (r ≤ b) ⌝ }
+{
+    if a < b { a } else { b }
+}
+
+// A number of 16 bits.
+pub fn short(low: u8, high: u8) -> u32 {
+    wide(low) + wide(high) * 256
+}
+
+// A number of 32 bits.
+pub fn long(a: u8, b: u8, c: u8, d: u8) -> u32 {
+    wide(a) + wide(b) * 256 + wide(c) * 65536 + wide(d) * 16777216
+}
+
+// Copies a sheet, or as much of it as the buffer holds, to the start of the buffer, and answers how many bytes that are.
+pub fn copy(sheet: &[u8], to: &mut [u8]) -> usize
+    ensures { λ r. ⌜ Counts r (now (to .exit)) ⌝ }
+{
+    let count = least(sheet.len(), to.len());
+    let mut k: usize = 0;
+    while k < count {
+        to[k] = sheet[k];
+        k += 1;
+    }
+    count
+}
+
+// How a call's line starts: its name and that of the case.
+pub fn call(verb: &[u8], name: &[u8]) {
+    io::write_all(STDOUT_FILENO, verb);
+    io::write_all(STDOUT_FILENO, name);
+    io::write_all(STDOUT_FILENO, b" ");
+}
+
+// What follows the arguments: the number that the call gives.
+pub fn answer(number: u32) {
+    io::write_all(STDOUT_FILENO, b"-> ");
+    io::print_decimal(STDOUT_FILENO, number as u64);
+}
