@@ -1,7 +1,7 @@
 // The calls of a light sheet, for every input: no call has a `requires`, and each outcome is an equation over what the call is given.
 ghost use mathlib.Core.Path.{_≡_};
 ghost use lib.ListN.{length};
-ghost use Rattle.sheet_calls.specs.Format.{node};
+ghost use Rattle.sheet_layout.specs.Format.{node};
 ghost use Rattle.sheet_calls.specs.Refusals.{checkRefusal, lookupRefusal, settingRefusal, runRefusal};
 ghost use Rattle.sheet_calls.specs.Calls.{lookedUp, Part, withNode};
 ghost use Rattle.surface_answers.specs.Answers.{outcome};

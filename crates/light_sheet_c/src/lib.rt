@@ -2,7 +2,7 @@
 // pointer and a length in C, an array a pointer; include/light_sheet.h declares the calls.
 ghost use mathlib.Core.Path.{_≡_};
 ghost use lib.ListN.{length};
-ghost use Rattle.sheet_calls.specs.Format.{node};
+ghost use Rattle.sheet_layout.specs.Format.{node};
 ghost use Rattle.sheet_calls.specs.Refusals.{checkRefusal, lookupRefusal, settingRefusal, runRefusal};
 ghost use Rattle.sheet_calls.specs.Calls.{lookedUp, withNode};
 ghost use Rattle.surface_answers.specs.Answers.{outcome};

@@ -18,7 +18,7 @@ use Rattle.element_sibson.specs.Theorems.{Has, wholes}
 use Rattle.element_nistir_6718.specs.Source as nistir
 use Rattle.element_readings.specs.Reading.{rounded, _withinℚ_}
 use Rattle.sheet_words.specs.Word.{byteAt}
-use Rattle.sheet_calls.specs.Format.{lineX, lineY, Node, decoded, nodeSize, nodeOffset, grainsPerStep}
+use Rattle.sheet_layout.specs.Format.{lineX, lineY, Node, decoded, nodeSize, nodeOffset, grainsPerStep}
 use Rattle.sheet_calls.specs.Refusals.{otherMark, otherVersion, otherCounts, otherLength, wrongLines, wrongNodes, offMesh, emptyRun, otherKind, noNode, wrongNumbers, Input, table, part, zeroNode, atPixel, atNode, ofSheet, checkRefusal, lookupRefusal, settingRefusal, runRefusal, Accepted}
 use Rattle.sheet_calls.specs.RefusalLaws.{Fails, Each, FirstToHold}
 use Rattle.sheet_calls.specs.WellFormed.{Inside, ConditionLaws}

@@ -1,5 +1,5 @@
 // The public calls, each with the record that the demands speak of for its contract: whatever a call gives and leaves is what they are about.
-ghost use Rattle.sheet_calls.specs.Format.{node};
+ghost use Rattle.sheet_layout.specs.Format.{node};
 ghost use Rattle.light_sheet_demands.specs.Demands.{Check, NodeRefusal, NodeCall, SetNode, Read, FillRun};
 use surface_answers::Answer;
 

@@ -1,5 +1,5 @@
 // The calls for C and Rust, each with the record that the demands speak of for its contract.
-ghost use Rattle.sheet_calls.specs.Format.{node};
+ghost use Rattle.sheet_layout.specs.Format.{node};
 ghost use Rattle.light_sheet_demands.specs.Demands.{Check, NodeRefusal, NodeOffset, SetNode, ReadInto, FillRun};
 
 pub fn check(sheet: &[u8]) -> u32

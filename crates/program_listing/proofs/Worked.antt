@@ -7,7 +7,7 @@ use Rattle.element_sibson.specs.Element as element
 use Rattle.element_readings.specs.Reading as reading
 use Rattle.element_corners.specs.Held.{side, cell}
 use Rattle.sheet_words.specs.Word.{signed}
-use Rattle.sheet_calls.specs.Format.{marked, supported, countIn, decoded, heightIn, slopeIn, nodeIn, nodeAt, heightAt, slopeXAt, slopeYAt}
+use Rattle.sheet_layout.specs.Format.{marked, supported, countIn, decoded, heightIn, slopeIn, nodeIn, nodeAt, heightAt, slopeXAt, slopeYAt}
 use Rattle.sheet_calls.specs.Refusals as refusals
 use Rattle.surface_of_sheet.specs.Place.{cellOf, cellAlong, columnAt, rowAt, place}
 use Rattle.surface_of_sheet.specs.Surface.{nodeNumbers, nodesOf, setOf, levelAt, tiltXAt, tiltYAt, level, tiltX, tiltY}

@@ -7,7 +7,7 @@ use native.Mathlib.Omega.{arith}
 use lib.Dec.{T, eqb, ltb, ltb→lt}
 use borrow.Author.Tests.{eqb-true, eqb-false, eq-eqb, ne-eqb, not-false}
 use Rattle.integers.proofs.Deduce.{both}
-use Rattle.sheet_calls.specs.Format.{columns, rows, Node, nodeIn}
+use Rattle.sheet_layout.specs.Format.{columns, rows, Node, nodeIn}
 use Rattle.sheet_calls.specs.Refusals.{Input, Rule, rule, otherMark, otherVersion, otherCounts, otherLength, wrongLines, wrongNodes, outside, offMesh, emptyRun, otherKind, noNode, wrongNumbers, table, first, member, part, sheetChecks, lookupChecks, zeroNode, atPixel, atNode, checkRefusal, lookupRefusal, settingRefusal, readingRefusal, runRefusal, Accepted}
 use Rattle.sheet_calls.specs.RefusalLaws.{Each}
 use Rattle.sheet_calls.specs.WellFormed.{Inside, OnMesh}

@@ -9,7 +9,7 @@ use lib.ListN.{length}
 use lib.Dec.{eqb}
 use borrow.Author.Tests.{ne-eqb, eqb-false}
 use Rattle.sheet_words.specs.Word.{byteAt}
-use Rattle.sheet_calls.specs.Format.{headerSize, marked, version, supported, columns, rows, countIn, reserved, lineX, lineY, nodeAt, sizeOf}
+use Rattle.sheet_layout.specs.Format.{headerSize, marked, version, supported, columns, rows, countIn, reserved, lineX, lineY, nodeAt, sizeOf}
 use Rattle.sheet_calls.specs.Refusals.{otherMark, otherVersion, otherCounts, otherLength, wrongLines, wrongNodes, outside, offMesh, emptyRun, otherKind, noNode, wrongNumbers}
 use Rattle.sheet_calls.specs.WellFormed.{Rising, InRange, Inside, ConditionLaws}
 use Rattle.sheet_calls.proofs.Meaning.{ltb-fails, leb-fails, not-fails, or-fails, some-fails, leb-holds, eqb-holds, and-holds}

@@ -12,7 +12,7 @@ use Rattle.integers.proofs.Bounds.{within-mono, within-upper, within-lower}
 use Rattle.sheet_words.specs.Word.{wordAt, signed, bitsOf, bytesOf, Bytes}
 use Rattle.sheet_words.proofs.Signs.{signed-bits, bits-signed, bits-small}
 use Rattle.sheet_words.proofs.Bytes.{word-bytes, bytes-word, bytes-of, bytes-append}
-use Rattle.sheet_calls.specs.Format.{Node, decoded, encoded, nodeIn, nodeSize}
+use Rattle.sheet_layout.specs.Format.{Node, decoded, encoded, nodeIn, nodeSize}
 use Rattle.sheet_calls.specs.NodeLaws.{EncodingLaws}
 use Rattle.sheet_calls.proofs.Ranges.{node-in}
 

@@ -2,7 +2,7 @@
 use mathlib.Core.Path.{_≡_, refl}
 use mathlib.Core.List.{map}
 use Rattle.sheet_words.specs.Word.{signed, bitsOf, bytesOf}
-use Rattle.sheet_calls.specs.Format.{marked, supported, countIn, decoded, encoded, heightIn, slopeIn, nodeIn, nodeAt, heightAt, slopeXAt, slopeYAt}
+use Rattle.sheet_layout.specs.Format.{marked, supported, countIn, decoded, encoded, heightIn, slopeIn, nodeIn, nodeAt, heightAt, slopeXAt, slopeYAt}
 use Rattle.sheet_calls.specs.Refusals.{some, otherMark, otherVersion, otherCounts, otherLength, wrongStep, wrongLine, wrongLines, wrongNodes, outside, offMesh, emptyRun, otherKind, noNode, wrongNumbers, table, first, member, part, checkRefusal, lookupRefusal, settingRefusal, readingRefusal, runRefusal}
 use Rattle.sheet_calls.specs.Calls.{lookedUp, withNode}
 use Rattle.sheet_calls.specs.Examples.{checked, Examples}

@@ -6,7 +6,7 @@ use native.Mathlib.Decide.{ℕ-discrete}
 use native.Mathlib.Omega.{arith}
 use lib.ListN.{length}
 use borrow.Author.Tests.{eq-eqb, ne-eqb}
-use Rattle.sheet_calls.specs.Format.{decoded, nodeSize, nodeOffset, nodeAt}
+use Rattle.sheet_layout.specs.Format.{decoded, nodeSize, nodeOffset, nodeAt}
 use Rattle.sheet_calls.specs.Refusals.{lookupRefusal}
 use Rattle.sheet_calls.specs.Calls.{span, lookedUp, bytesIn}
 use Rattle.sheet_calls.specs.NodeLaws.{LookupLaws}

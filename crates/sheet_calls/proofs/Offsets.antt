@@ -7,7 +7,7 @@ use native.Mathlib.Nat.{mul-le-mul, mul-comm, suc-mul, le-refl}
 use native.Mathlib.Decide.{decLt}
 use native.Mathlib.Omega.{arith}
 use lib.ListN.{length}
-use Rattle.sheet_calls.specs.Format.{columns, rows, nodeSize, nodeOffset}
+use Rattle.sheet_layout.specs.Format.{columns, rows, nodeSize, nodeOffset}
 use Rattle.sheet_calls.specs.WellFormed.{WellFormed}
 
 -- a later row starts behind all of an earlier one

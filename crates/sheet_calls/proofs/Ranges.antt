@@ -6,7 +6,7 @@ use mathlib.Core.Bool.{true, false}
 use lib.Dec.{leb}
 use lib.IntN.{ℤ, natAbs}
 use Rattle.integers.specs.Within.{_within_}
-use Rattle.sheet_calls.specs.Format.{furthest, widest, Node, highest, steepest, heightIn, slopeIn, nodeIn}
+use Rattle.sheet_layout.specs.Format.{furthest, widest, Node, highest, steepest, heightIn, slopeIn, nodeIn}
 use Rattle.sheet_calls.specs.Refusals.{some, wrongStep, wrongLine}
 use Rattle.sheet_calls.specs.WellFormed.{Rising, InRange}
 use Rattle.sheet_calls.proofs.Meaning.{ltb-fails, leb-fails, or-fails, some-fails, leb-holds, and-holds}

@@ -5,7 +5,7 @@ use mathlib.Core.List.{List}
 use native.Mathlib.Omega.{arith}
 use lib.ListN.{length}
 use Rattle.sheet_words.specs.Word.{byteAt, wordAt}
-use Rattle.sheet_calls.specs.Format.{columns, rows, xLinesOffset, yLinesOffset, lineX, lineY, nodesOffset, decoded, nodeSize, nodeOffset, nodeAt}
+use Rattle.sheet_layout.specs.Format.{columns, rows, xLinesOffset, yLinesOffset, lineX, lineY, nodesOffset, decoded, nodeSize, nodeOffset, nodeAt}
 use Rattle.sheet_calls.specs.WellFormed.{Rising, InRange, WellFormed}
 use Rattle.sheet_words.proofs.Replaced.{stretch-byte}
 

@@ -9,7 +9,7 @@ use lib.ListN.{length}
 use borrow.Author.Tests.{eq-eqb, ne-eqb}
 use Rattle.sheet_words.specs.Word.{byteAt, Bytes}
 use Rattle.sheet_words.proofs.Replaced.{replaced-bytes}
-use Rattle.sheet_calls.specs.Format.{columns, rows, Node, encoded, nodeIn, nodeSize, nodeOffset, nodeAt}
+use Rattle.sheet_layout.specs.Format.{columns, rows, Node, encoded, nodeIn, nodeSize, nodeOffset, nodeAt}
 use Rattle.sheet_calls.specs.Refusals.{lookupRefusal, settingRefusal, Accepted}
 use Rattle.sheet_calls.specs.Calls.{lookedUp, bytesIn, withNode}
 use Rattle.sheet_calls.specs.WellFormed.{WellFormed}

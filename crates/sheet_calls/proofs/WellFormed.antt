@@ -6,7 +6,7 @@ use mathlib.Core.Bool.{false}
 use native.Mathlib.Nat.{mul-le-mul}
 use native.Mathlib.Omega.{arith}
 use lib.ListN.{length}
-use Rattle.sheet_calls.specs.Format.{headerSize}
+use Rattle.sheet_layout.specs.Format.{headerSize}
 use Rattle.sheet_calls.specs.Refusals.{otherMark, otherVersion, otherCounts, otherLength, wrongLines, wrongNodes, table, member, part, sheetChecks, ofSheet, checkRefusal, Accepted}
 use Rattle.sheet_calls.specs.WellFormed.{WellFormed, AcceptedLaws}
 use Rattle.sheet_calls.proofs.FirstHolds.{none-given, none-of-table}

@@ -8,7 +8,7 @@ use native.Mathlib.Decide.{ℕ-discrete}
 use native.Mathlib.Omega.{arith}
 use lib.ListN.{length, take, drop}
 use Rattle.sheet_words.specs.Word.{byteAt, replaced, Bytes}
-use Rattle.sheet_calls.specs.Format.{columns, rows, Node, encoded, decoded, nodeIn, nodeSize, nodeOffset, nodeBytes, nodeAt}
+use Rattle.sheet_layout.specs.Format.{columns, rows, Node, encoded, decoded, nodeIn, nodeSize, nodeOffset, nodeBytes, nodeAt}
 use Rattle.sheet_calls.specs.WellFormed.{InRange, WellFormed}
 use Rattle.sheet_words.proofs.Replaced.{stretch-length, stretch-bytes, replaced-same, replaced-length, replaced-stretch, replaced-before, replaced-after, replaced-again}
 use Rattle.sheet_calls.proofs.Encoding.{encoding-laws}

@@ -7,7 +7,7 @@ use lib.ListN.{take, drop}
 use lib.Dec.{eqb}
 use denote.Ref.{RefT, ptr, now}
 use Rattle.sheet_words.specs.Word.{replaced}
-use Rattle.sheet_calls.specs.Format.{Node, encoded, nodeSize, nodeOffset}
+use Rattle.sheet_layout.specs.Format.{Node, encoded, nodeSize, nodeOffset}
 use Rattle.sheet_calls.specs.Refusals.{lookupRefusal, settingRefusal}
 
 -- ---- looking up

@@ -1,4 +1,3 @@
-pub mod Format
 pub mod Refusals
 pub mod RefusalLaws
 pub mod WellFormed

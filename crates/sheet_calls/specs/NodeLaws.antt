@@ -5,7 +5,7 @@ use mathlib.Core.List.{List}
 use mathlib.Core.Bool.{true}
 use lib.ListN.{length}
 use Rattle.sheet_words.specs.Word.{byteAt, Bytes}
-use Rattle.sheet_calls.specs.Format.{columns, rows, lineX, lineY, Node, decoded, encoded, nodeIn, nodeSize, nodeOffset, nodeAt}
+use Rattle.sheet_layout.specs.Format.{columns, rows, lineX, lineY, Node, decoded, encoded, nodeIn, nodeSize, nodeOffset, nodeAt}
 use Rattle.sheet_calls.specs.Refusals.{lookupRefusal, settingRefusal, Accepted}
 use Rattle.sheet_calls.specs.Calls.{span, lookedUp, bytesIn, withNode}
 

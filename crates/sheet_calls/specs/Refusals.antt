@@ -7,7 +7,7 @@ use mathlib.Core.Bool.{Bool, false, cond, not, _&&_, _||_}
 use lib.ListN.{length}
 use lib.Dec.{ltb, leb, eqb}
 use lib.IntN.{pos}
-use Rattle.sheet_calls.specs.Format.{headerSize, marked, version, supported, columns, rows, countIn, reserved, lineX, lineY, furthest, widest, Node, node, nodeIn, nodeAt, sizeOf}
+use Rattle.sheet_layout.specs.Format.{headerSize, marked, version, supported, columns, rows, countIn, reserved, lineX, lineY, furthest, widest, Node, node, nodeIn, nodeAt, sizeOf}
 
 -- p holds of some number below n
 unfoldable pub some : (ℕ → Bool) → ℕ → Bool

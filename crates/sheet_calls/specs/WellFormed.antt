@@ -7,7 +7,7 @@ use mathlib.Core.Bool.{false}
 use lib.ListN.{length}
 use Rattle.integers.specs.Within.{_within_}
 use Rattle.sheet_words.specs.Word.{byteAt}
-use Rattle.sheet_calls.specs.Format.{version, columns, rows, lineX, lineY, Node, nodeAt}
+use Rattle.sheet_layout.specs.Format.{version, columns, rows, lineX, lineY, Node, nodeAt}
 use Rattle.sheet_calls.specs.Refusals.{otherMark, otherVersion, otherCounts, otherLength, wrongLines, wrongNodes, offMesh, emptyRun, otherKind, noNode, wrongNumbers, Accepted}
 
 -- the positions of an axis's n lines: none exceeds 4,096, each rises above the one before, by at most 64

@@ -11,7 +11,7 @@ use borrow.Author.Tests.{leb-true, le-leb, lt-leb}
 use Rattle.integers.proofs.Order.{cond-ind}
 use Rattle.sheet_words.specs.Word.{wordAt, signed}
 use Rattle.sheet_words.proofs.Replaced.{stretch-word}
-use Rattle.sheet_calls.specs.Format.{columns, rows, decoded, heightIn, slopeIn, nodeIn, nodesOffset, nodeSize, nodeOffset, nodeBytes, nodeAt}
+use Rattle.sheet_layout.specs.Format.{columns, rows, decoded, heightIn, slopeIn, nodeIn, nodesOffset, nodeSize, nodeOffset, nodeBytes, nodeAt}
 use Rattle.sheet_calls.specs.Refusals.{some, wrongNodes}
 use Rattle.sheet_checking.proofs.Gathered.{some-cong, some-rows}
 

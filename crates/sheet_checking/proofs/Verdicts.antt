@@ -5,7 +5,7 @@ use mathlib.Core.List.{List}
 use mathlib.Core.Bool.{true, false}
 use native.Mathlib.Omega.{arith}
 use lib.ListN.{length}
-use Rattle.sheet_calls.specs.Format.{headerSize, columns, rows}
+use Rattle.sheet_layout.specs.Format.{headerSize, columns, rows}
 use Rattle.sheet_calls.specs.Refusals.{otherMark, otherVersion, otherCounts, otherLength, wrongLines, wrongNodes, checkRefusal}
 use Rattle.sheet_calls.proofs.Chains.{check-is}
 use Rattle.sheet_calls.proofs.Conditions.{condition-laws}

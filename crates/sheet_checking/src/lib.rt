@@ -4,16 +4,15 @@ ghost use mathlib.Core.Bool.{false, not};
 ghost use Prim.Native.Nat.{_+_, _*_, _≤_, _<_};
 ghost use lib.ListN.{length};
 ghost use Rattle.sheet_words.specs.Word.{wordAt, signed};
-ghost use Rattle.sheet_calls.specs.Format.{headerSize, columns, rows, lineX, lineY, countIn, slopeIn, nodeSize, nodesOffset, nodeOffset, sizeOf};
+ghost use Rattle.sheet_layout.specs.Format.{headerSize, columns, rows, lineX, lineY, countIn, slopeIn, nodeSize, nodesOffset, nodeOffset, sizeOf};
 ghost use Rattle.sheet_calls.specs.Refusals.{some, otherMark, otherVersion, otherCounts, otherLength, wrongStep, wrongLine, wrongLines, wrongNodes, checkRefusal, Accepted};
-use sheet_words::wide;
+use sheet_layout::HEADER_SIZE;
+use sheet_layout::NODE_SIZE;
+use sheet_layout::columns;
+use sheet_layout::node_count;
+use sheet_layout::nodes_offset;
+use sheet_layout::rows;
 use sheet_words::word;
-
-// How many bytes the header has.
-pub const HEADER_SIZE: usize = 8;
-
-// How many bytes a node has.
-pub const NODE_SIZE: usize = 6;
 
 // 0 where the sheet is accepted, else the number of the first condition that holds.
 pub fn check(sheet: &[u8]) -> u32
@@ -160,39 +159,10 @@ pub fn line_y(sheet: &[u8], j: usize) -> u32
     word(sheet, HEADER_SIZE + 2 * columns(sheet) + 2 * j)
 }
 
-// Where the nodes start.
-pub fn nodes_offset(sheet: &[u8]) -> usize
-    requires { ⌜ headerSize ≤ length (now sheet) ⌝ }
-    ensures { λ r. ⌜ (r ≡ nodesOffset (now (sheet .entry))) × (r ≤ 1028) ⌝ }
-{
-    HEADER_SIZE + 2 * columns(sheet) + 2 * rows(sheet)
-}
-
 // Where a node's bytes start.
 pub fn node_offset(sheet: &[u8], column: usize, row: usize) -> usize
     requires { ⌜ Accepted (now sheet) × (column < columns (now sheet)) × (row < rows (now sheet)) ⌝ }
     ensures { λ r. ⌜ (r ≡ nodeOffset (now (sheet .entry)) column row) × (r + nodeSize ≤ length (now (sheet .entry))) ⌝ }
 {
     nodes_offset(sheet) + NODE_SIZE * (row * columns(sheet) + column)
-}
-
-fn node_count(sheet: &[u8]) -> usize
-    requires { ⌜ headerSize ≤ length (now sheet) ⌝ }
-    ensures { λ r. ⌜ (r ≡ columns (now (sheet .entry)) * rows (now (sheet .entry))) × (r ≤ 65536) ⌝ }
-{
-    columns(sheet) * rows(sheet)
-}
-
-pub fn columns(sheet: &[u8]) -> usize
-    requires { ⌜ headerSize ≤ length (now sheet) ⌝ }
-    ensures { λ r. ⌜ (r ≡ columns (now (sheet .entry))) × (r < 256) ⌝ }
-{
-    wide(sheet[5]) as usize
-}
-
-pub fn rows(sheet: &[u8]) -> usize
-    requires { ⌜ headerSize ≤ length (now sheet) ⌝ }
-    ensures { λ r. ⌜ (r ≡ rows (now (sheet .entry))) × (r < 256) ⌝ }
-{
-    wide(sheet[6]) as usize
 }

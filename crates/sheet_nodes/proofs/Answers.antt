@@ -8,7 +8,7 @@ use lib.IntN.{ℤ}
 use mir.Syntax.{w32}
 use mir.Val.{SFits, toZ, ofZ}
 use Rattle.sheet_words.specs.Word.{replaced}
-use Rattle.sheet_calls.specs.Format.{Node, node, encoded, nodeSize, nodeOffset}
+use Rattle.sheet_layout.specs.Format.{Node, node, encoded, nodeSize, nodeOffset}
 use Rattle.sheet_calls.specs.Refusals.{noNode, wrongNumbers, checkRefusal, lookupRefusal, settingRefusal}
 use Rattle.sheet_calls.specs.Calls.{span, lookedUp, withNode}
 use Rattle.sheet_calls.proofs.Chains.{refused-by, passed-by, lookup-is, setting-is}

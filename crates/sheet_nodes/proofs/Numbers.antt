@@ -15,7 +15,7 @@ use Rattle.integers.specs.Within.{_within_}
 use Rattle.integers.proofs.Bounds.{within-mono}
 use Rattle.sheet_words.specs.Word.{bitsOf, bytesOf, replaced}
 use Rattle.sheet_words.proofs.Replaced.{replaced-on}
-use Rattle.sheet_calls.specs.Format.{Node, node, nodeSize, encoded, heightIn, slopeIn, nodeIn}
+use Rattle.sheet_layout.specs.Format.{Node, node, nodeSize, encoded, heightIn, slopeIn, nodeIn}
 use Rattle.sheet_calls.specs.Refusals.{wrongNumbers}
 use Rattle.sheet_calls.proofs.Conditions.{condition-laws}
 

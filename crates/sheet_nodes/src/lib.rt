@@ -4,14 +4,14 @@ ghost use mathlib.Core.Bool.{false};
 ghost use Prim.Native.Nat.{_+_, _≤_};
 ghost use lib.ListN.{length};
 ghost use Rattle.sheet_words.specs.Word.{replaced};
-ghost use Rattle.sheet_calls.specs.Format.{headerSize, node, encoded, slopeIn, nodeSize, nodeOffset};
+ghost use Rattle.sheet_layout.specs.Format.{headerSize, node, encoded, slopeIn, nodeSize, nodeOffset};
 ghost use Rattle.sheet_calls.specs.Refusals.{noNode, wrongNumbers, lookupRefusal, settingRefusal};
 ghost use Rattle.sheet_calls.specs.Calls.{lookedUp, span, Part, withNode};
-use sheet_checking::NODE_SIZE;
 use sheet_checking::check;
-use sheet_checking::columns;
 use sheet_checking::node_offset;
-use sheet_checking::rows;
+use sheet_layout::NODE_SIZE;
+use sheet_layout::columns;
+use sheet_layout::rows;
 use sheet_words::bits_of;
 use sheet_words::put_word;
 

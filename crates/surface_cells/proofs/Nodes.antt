@@ -8,7 +8,7 @@ use lib.IntN.{ℤ, pos, _*ℤ_}
 use Rattle.integers.specs.Within.{_within_}
 use Rattle.sheet_words.specs.Word.{wordAt, signed}
 use Rattle.sheet_words.proofs.Replaced.{stretch-word}
-use Rattle.sheet_calls.specs.Format.{columns, rows, Node, node, decoded, nodeSize, nodeOffset, nodeBytes, nodeAt, heightAt, slopeXAt, slopeYAt}
+use Rattle.sheet_layout.specs.Format.{columns, rows, Node, node, decoded, nodeSize, nodeOffset, nodeBytes, nodeAt, heightAt, slopeXAt, slopeYAt}
 use Rattle.sheet_calls.specs.Refusals.{Accepted}
 use Rattle.sheet_calls.proofs.WellFormed.{accepted-laws}
 use Rattle.element_corners.specs.Held.{three}

@@ -7,7 +7,7 @@ use native.Mathlib.Omega.{arith}
 use native.Mathlib.Decide.{decLt}
 use lib.Dec.{ltb}
 use borrow.Author.Tests.{lt-ltb, eq-eqb, ne-eqb}
-use Rattle.sheet_calls.specs.Format.{columns, rows, lineX, lineY}
+use Rattle.sheet_layout.specs.Format.{columns, rows, lineX, lineY}
 use Rattle.sheet_calls.specs.Refusals.{outside, offMesh, Accepted}
 use Rattle.surface_of_sheet.proofs.Cells.{last-x-near}
 

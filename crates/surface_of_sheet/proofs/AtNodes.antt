@@ -15,7 +15,7 @@ use Rattle.element_readings.specs.Bounds.{IsAt}
 use Rattle.element_readings.specs.Reading as reading
 use Rattle.element_readings.proofs.AtCorners.{at-node, at-corners}
 use Rattle.element_readings.proofs.Rounded.{rounded-whole}
-use Rattle.sheet_calls.specs.Format.{columns, rows, lineX, lineY, Node, grainsPerStep, heightAt, slopeXAt, slopeYAt}
+use Rattle.sheet_layout.specs.Format.{columns, rows, lineX, lineY, Node, grainsPerStep, heightAt, slopeXAt, slopeYAt}
 use Rattle.sheet_calls.specs.Refusals.{settingRefusal, Accepted}
 use Rattle.sheet_calls.specs.Calls.{withNode}
 use Rattle.sheet_calls.specs.NodeLaws.{Leaves, ReadsBack}

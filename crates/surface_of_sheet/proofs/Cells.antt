@@ -14,7 +14,7 @@ use Rattle.element_readings.specs.Bounds.{largest, AllWithin}
 use Rattle.element_corners.specs.Held.{Side, side, cell, Measured}
 use Rattle.element_corners.proofs.Sides.{side-is}
 use Rattle.element_corners.proofs.Arrays.{measured-within}
-use Rattle.sheet_calls.specs.Format.{columns, rows, lineX, lineY, heightAt, slopeXAt, slopeYAt}
+use Rattle.sheet_layout.specs.Format.{columns, rows, lineX, lineY, heightAt, slopeXAt, slopeYAt}
 use Rattle.sheet_calls.specs.Refusals.{Accepted}
 use Rattle.sheet_calls.specs.WellFormed.{Rising, WellFormed}
 use Rattle.sheet_calls.proofs.WellFormed.{accepted-laws}

@@ -8,7 +8,7 @@ use native.Mathlib.Omega.{arith}
 use lib.Dec.{T}
 use Rattle.element_sibson.specs.Piece.{triangle, number}
 use Rattle.element_sibson.proofs.Covers.{covering}
-use Rattle.sheet_calls.specs.Format.{columns, rows, lineX, lineY}
+use Rattle.sheet_layout.specs.Format.{columns, rows, lineX, lineY}
 use Rattle.sheet_calls.specs.Refusals.{Accepted}
 use Rattle.sheet_calls.specs.WellFormed.{Inside}
 use Rattle.sheet_calls.proofs.Meaning.{leb-holds, eqb-holds, and-holds}

@@ -16,7 +16,7 @@ use Rattle.element_readings.specs.Reading as reading
 use Rattle.element_readings.proofs.Bounds.{bounds}
 use Rattle.element_readings.proofs.Rounded.{rounded-≈}
 use Rattle.element_corners.specs.Held.{cell}
-use Rattle.sheet_calls.specs.Format.{columns, rows, lineX, lineY}
+use Rattle.sheet_layout.specs.Format.{columns, rows, lineX, lineY}
 use Rattle.sheet_calls.specs.Refusals.{Accepted}
 use Rattle.surface_of_sheet.specs.Place.{cellOf, Place, pointAt, columnAt, rowAt, place, seen, touches}
 use Rattle.surface_of_sheet.specs.Surface.{nodesOf, setOf, jetAt, levelAt, tiltXAt, tiltYAt, level, tiltX, tiltY}

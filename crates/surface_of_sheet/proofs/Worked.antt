@@ -13,7 +13,7 @@ use Rattle.element_sibson.specs.Element.{cornerNumbers, inOrder, weights, weigh
 use Rattle.element_readings.specs.Reading as reading
 use Rattle.element_corners.specs.Held.{side, cell}
 use Rattle.sheet_words.specs.Word.{signed}
-use Rattle.sheet_calls.specs.Format.{marked, supported, countIn, decoded, heightIn, slopeIn, nodeIn, nodeAt, heightAt, slopeXAt, slopeYAt}
+use Rattle.sheet_layout.specs.Format.{marked, supported, countIn, decoded, heightIn, slopeIn, nodeIn, nodeAt, heightAt, slopeXAt, slopeYAt}
 use Rattle.sheet_calls.specs.Refusals as refusals
 use Rattle.sheet_calls.specs.Refusals.{Accepted}
 use Rattle.surface_answers.specs.Answers.{answered, refused, quotient}

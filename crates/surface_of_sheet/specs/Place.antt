@@ -6,7 +6,7 @@ use lib.Dec.{leb, ltb, eqb}
 use Rattle.element_sibson.specs.Cubic.{Cell, Point, pixel}
 use Rattle.element_sibson.specs.Piece.{Piece, triangle, pieceAt}
 use Rattle.element_corners.specs.Held.{cell}
-use Rattle.sheet_calls.specs.Format.{columns, rows, lineX, lineY}
+use Rattle.sheet_layout.specs.Format.{columns, rows, lineX, lineY}
 
 -- ---- cells
 

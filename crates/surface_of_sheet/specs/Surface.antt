@@ -7,7 +7,7 @@ use Rattle.element_sibson.specs.Cubic.{Cubic, Jet, jet}
 use Rattle.element_sibson.specs.Piece.{FourCubics, leftTop, rightTop, leftBottom, rightBottom}
 use Rattle.element_sibson.specs.Element.{Nodes, element}
 use Rattle.element_readings.specs.Reading as reading
-use Rattle.sheet_calls.specs.Format.{heightAt, slopeXAt, slopeYAt}
+use Rattle.sheet_layout.specs.Format.{heightAt, slopeXAt, slopeYAt}
 use Rattle.surface_of_sheet.specs.Place.{cellOf, Place, cellAt, pointAt, place}
 
 -- ---- the set we read from

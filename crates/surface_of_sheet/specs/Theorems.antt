@@ -11,7 +11,7 @@ use Rattle.element_sibson.specs.Piece.{top, right, bottom, left, FourCubics, ed
 use Rattle.element_sibson.specs.Conditions.{Meets, Equal}
 use Rattle.element_sibson.specs.Theorems.{Has, wholes}
 use Rattle.element_readings.specs.Reading.{_withinℚ_}
-use Rattle.sheet_calls.specs.Format.{columns, rows, lineX, lineY, Node, grainsPerStep, heightAt, slopeXAt, slopeYAt}
+use Rattle.sheet_layout.specs.Format.{columns, rows, lineX, lineY, Node, grainsPerStep, heightAt, slopeXAt, slopeYAt}
 use Rattle.sheet_calls.specs.Refusals.{settingRefusal, readingRefusal, runRefusal, Accepted}
 use Rattle.sheet_calls.specs.WellFormed.{Inside}
 use Rattle.sheet_calls.specs.Calls.{withNode}

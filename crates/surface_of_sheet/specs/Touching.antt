@@ -6,7 +6,7 @@ use mathlib.Core.List.{List}
 use lib.Dec.{T}
 use Rattle.element_sibson.specs.Cubic.{_≋_}
 use Rattle.element_sibson.specs.Piece.{number, triangle}
-use Rattle.sheet_calls.specs.Format.{columns, rows, lineX, lineY}
+use Rattle.sheet_layout.specs.Format.{columns, rows, lineX, lineY}
 use Rattle.sheet_calls.specs.Refusals.{Accepted}
 use Rattle.sheet_calls.specs.WellFormed.{Inside}
 use Rattle.surface_of_sheet.specs.Place.{HasCell, Place, pointAt, place, touches}

@@ -5,7 +5,7 @@ use mathlib.Core.Bool.{_||_, or-assoc}
 use mathlib.Core.List.{List}
 use native.Mathlib.Omega.{arith}
 use lib.Dec.{ltb}
-use Rattle.sheet_calls.specs.Format.{columns, rows, xLinesOffset, yLinesOffset, lineX, lineY}
+use Rattle.sheet_layout.specs.Format.{columns, rows, xLinesOffset, yLinesOffset, lineX, lineY}
 use Rattle.sheet_calls.specs.Refusals.{outside, Accepted}
 use Rattle.sheet_calls.specs.WellFormed.{Inside}
 use Rattle.element_sibson.specs.Piece.{pieceAt}

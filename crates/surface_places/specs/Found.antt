@@ -5,7 +5,7 @@ use mathlib.Core.Bool.{Bool, _||_}
 use lib.Dec.{ltb}
 use lib.ListN.{length}
 use Rattle.sheet_words.specs.Word.{wordAt}
-use Rattle.sheet_calls.specs.Format.{lineX, lineY}
+use Rattle.sheet_layout.specs.Format.{lineX, lineY}
 use Rattle.sheet_calls.specs.WellFormed.{Rising}
 use Rattle.element_pieces.specs.Parts.{named}
 use Rattle.surface_of_sheet.specs.Place as surface

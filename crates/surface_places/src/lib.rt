@@ -10,9 +10,9 @@ ghost use Rattle.surface_of_sheet.specs.Place.{cellAlong, place};
 ghost use Rattle.surface_places.specs.Found.{lineFrom, Axis, Between, offAxis, onAxis, holding};
 use element_evaluation::Pixel;
 use element_pieces::Piece;
-use sheet_checking::HEADER_SIZE;
-use sheet_checking::columns;
-use sheet_checking::rows;
+use sheet_layout::HEADER_SIZE;
+use sheet_layout::columns;
+use sheet_layout::rows;
 use sheet_words::word;
 
 // The cell of a pixel by its column and row, the pixel in that cell, and the piece that it is read from.

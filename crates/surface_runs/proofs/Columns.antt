@@ -6,7 +6,7 @@ use native.Mathlib.Decide.{ℕ-discrete, decLt}
 use native.Mathlib.Nat.{le-antisymm}
 use native.Mathlib.Omega.{arith}
 use borrow.Author.Tests.{eq-eqb, ne-eqb}
-use Rattle.sheet_calls.specs.Format.{columns, lineX}
+use Rattle.sheet_layout.specs.Format.{columns, lineX}
 use Rattle.surface_of_sheet.specs.Place.{HasCell, columnAt}
 use Rattle.surface_of_sheet.proofs.Along.{along-starts, along-last, along-in, axis-cell, axis-ends}
 use Rattle.surface_of_sheet.proofs.Cells.{sound, x-rising, last-x-near}

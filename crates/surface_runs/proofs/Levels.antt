@@ -14,7 +14,7 @@ use Rattle.element_readings.specs.Bounds.{largest, AllWithin}
 use Rattle.element_corners.specs.Held.{corners, arrays, cell}
 use Rattle.element_corners.proofs.Arrays.{held}
 use Rattle.element_evaluation.specs.declared.Pixel.{Pixel}
-use Rattle.sheet_calls.specs.Format.{lineX}
+use Rattle.sheet_layout.specs.Format.{lineX}
 use Rattle.surface_of_sheet.specs.Place.{cellOf, place}
 use Rattle.surface_of_sheet.specs.Surface.{nodesOf, setOf, levelAt, level}
 use Rattle.surface_of_sheet.specs.Run.{begun}

@@ -8,7 +8,7 @@ use native.Mathlib.Numerals.{add-one}
 use native.Mathlib.Omega.{arith}
 use lib.IntN.{ℤ}
 use lib.ListN.{length}
-use Rattle.sheet_calls.specs.Format.{columns, lineX}
+use Rattle.sheet_layout.specs.Format.{columns, lineX}
 use Rattle.sheet_calls.specs.WellFormed.{OnMesh}
 use Rattle.surface_of_sheet.specs.Place.{columnAt, rowAt, place}
 use Rattle.surface_of_sheet.specs.Run.{begun}

@@ -7,7 +7,7 @@ use lib.Dec.{eqb}
 use lib.IntN.{ℤ}
 use Rattle.element_sibson.specs.Cubic.{pixel}
 use Rattle.element_sibson.specs.Piece.{pieceAt}
-use Rattle.sheet_calls.specs.Format.{columns, rows, lineX, lineY}
+use Rattle.sheet_layout.specs.Format.{columns, rows, lineX, lineY}
 use Rattle.sheet_calls.specs.Refusals.{Accepted}
 use Rattle.surface_of_sheet.specs.Place.{cellOf, columnAt, rowAt}
 use Rattle.surface_of_sheet.specs.Surface.{levelAt}

@@ -2,7 +2,7 @@
 ghost use mathlib.Core.Path.{_≡_};
 ghost use Prim.Native.Nat.{suc, _+_, _-_, _≤_, _<_};
 ghost use lib.ListN.{length};
-ghost use Rattle.sheet_calls.specs.Format.{columns, lineX};
+ghost use Rattle.sheet_layout.specs.Format.{columns, lineX};
 ghost use Rattle.sheet_calls.specs.Refusals.{Accepted};
 ghost use Rattle.sheet_calls.specs.WellFormed.{OnMesh};
 ghost use Rattle.surface_of_sheet.specs.Run.{begun};
@@ -11,8 +11,8 @@ ghost use Rattle.surface_runs.specs.Strips.{stripLevel, doneIn, AtColumn
 use element_evaluation::Pixel;
 use element_spans::fill_cell;
 use element_spans::least;
-use sheet_checking::columns;
 use sheet_checking::line_x;
+use sheet_layout::columns;
 use surface_cells::corner_numbers;
 use surface_places::find;
 

@@ -1,6 +1,6 @@
 -- `sheet_checking::in_counts` meets its contract. Assumes nothing.
 use mathlib.Core.Path.{refl}
-use Rattle.sheet_calls.specs.Format.{countIn}
+use Rattle.sheet_layout.specs.Format.{countIn}
 use Rattle.sheet_checking.proofs.in_counts.Statement.{statement}
 use Rattle.sheet_checking.proofs.in_counts.Tie as tie
 

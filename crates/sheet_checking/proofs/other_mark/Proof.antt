@@ -1,7 +1,7 @@
 -- `sheet_checking::other_mark` meets its contract. Assumes nothing.
 use mathlib.Core.Path.{refl}
 use borrow.Author.Tests.{lt-ltb, le-ltb}
-use Rattle.sheet_calls.specs.Format.{marked}
+use Rattle.sheet_layout.specs.Format.{marked}
 use Rattle.sheet_calls.specs.Refusals.{otherMark}
 use borrow.Author.Needs.{needs}
 use Rattle.sheet_checking.proofs.other_mark.Statement.{statement}

@@ -1,6 +1,6 @@
 -- `sheet_checking::other_version` meets its contract. Assumes nothing.
 use mathlib.Core.Path.{refl}
-use Rattle.sheet_calls.specs.Format.{supported}
+use Rattle.sheet_layout.specs.Format.{supported}
 use Rattle.sheet_calls.specs.Refusals.{otherVersion}
 use borrow.Author.Needs.{needs}
 use Rattle.sheet_checking.proofs.other_version.Statement.{statement}

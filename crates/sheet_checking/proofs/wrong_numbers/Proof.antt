@@ -4,7 +4,7 @@ use mathlib.Core.Path.{_≡_, refl, _∙_, ap}
 use mathlib.Core.Bool.{not}
 use borrow.Author.Needs.{needs}
 use Rattle.sheet_words.specs.Word.{wordAt, signed}
-use Rattle.sheet_calls.specs.Format.{slopeIn}
+use Rattle.sheet_layout.specs.Format.{slopeIn}
 use Rattle.sheet_calls.specs.Refusals.{some}
 use Rattle.sheet_checking.proofs.Gathered.{gathered, gathered-all}
 use Rattle.sheet_checking.proofs.wrong_numbers.Statement.{statement}

@@ -13,7 +13,7 @@ use Rattle.element_sibson.specs.Element.{cornerNumbers}
 use Rattle.element_corners.specs.Held.{corners, arrays, cell}
 use Rattle.element_corners.proofs.Arrays.{held}
 use Rattle.element_evaluation.specs.declared.Pixel.{Pixel}
-use Rattle.sheet_calls.specs.Format.{lineX}
+use Rattle.sheet_layout.specs.Format.{lineX}
 use Rattle.surface_of_sheet.specs.Place.{HasCell}
 use Rattle.surface_of_sheet.proofs.Cells.{sound, x-rising}
 use Rattle.element_spans.specs.Needs.{FitsCell}

@@ -1,10 +1,10 @@
--- `sheet_checking::node_count` meets its contract. Assumes nothing.
+-- `sheet_layout::node_count` meets its contract. Assumes nothing.
 use Prim.Native.Nat.{_*_, _≤_}
 use native.Mathlib.Nat.{mul-le-mul, le-of-lt}
 use native.Mathlib.Omega.{arith}
 use borrow.Author.Needs.{needs}
-use Rattle.sheet_checking.proofs.node_count.Statement.{statement}
-use Rattle.sheet_checking.proofs.node_count.Tie as tie
+use Rattle.sheet_layout.proofs.node_count.Statement.{statement}
+use Rattle.sheet_layout.proofs.node_count.Tie as tie
 
 -- both are below 256
 product : (c : tie.After-rows) → c .before .columns .result * c .rows .result ≤ 256 * 256
