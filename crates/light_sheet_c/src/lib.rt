@@ -36,7 +36,7 @@ pub extern "C" fn lvs_node_offset(sheet: &[u8], column: u32, row: u32) -> usize
     if light_sheet::node_refusal(sheet, column, row) != 0 {
         return 0;
     }
-    sheet_checking::node_offset(sheet, column as usize, row as usize)
+    sheet_layout::node_offset(sheet, column as usize, row as usize)
 }
 
 // Sets the node at a column and row to a height, in steps, and two slopes, in grains per pixel, and answers 0; or, refused (1 to 6, 10, 11), answers the

@@ -37,7 +37,7 @@ fn print_rows(sheet: &[u8], out: &mut [u8])
     requires { ⌜ Accepted (now sheet) × (rowRoom ≤ length (now out)) ⌝ }
 {
     let last = program_listing::last_row(sheet);
-    let mut y = sheet_checking::line_y(sheet, 0);
+    let mut y = sheet_layout::line_y(sheet, 0);
     while y <= last {
         if !print_row(sheet, y, out) {
             return;

@@ -3,7 +3,7 @@ use Prim.Native.Nat.{ℕ}
 use mathlib.Core.Path.{_≡_}
 use mathlib.Core.List.{List, [], _∷_, _++_}
 use lib.ListN.{set, replicate}
-use Rattle.sheet_calls.specs.Examples.{sheetA}
+use Rattle.sheet_layout.specs.Examples.{sheetA}
 use Rattle.program_text.specs.Text.{digit}
 use Rattle.program_listing.specs.Listing.{printed}
 

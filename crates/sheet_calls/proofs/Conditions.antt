@@ -12,8 +12,9 @@ use Rattle.sheet_words.specs.Word.{byteAt}
 use Rattle.sheet_layout.specs.Format.{headerSize, marked, version, supported, columns, rows, countIn, reserved, lineX, lineY, nodeAt, sizeOf}
 use Rattle.sheet_calls.specs.Refusals.{otherMark, otherVersion, otherCounts, otherLength, wrongLines, wrongNodes, outside, offMesh, emptyRun, otherKind, noNode, wrongNumbers}
 use Rattle.sheet_calls.specs.WellFormed.{Rising, InRange, Inside, ConditionLaws}
-use Rattle.sheet_calls.proofs.Meaning.{ltb-fails, leb-fails, not-fails, or-fails, some-fails, leb-holds, eqb-holds, and-holds}
-use Rattle.sheet_calls.proofs.Ranges.{lines-rise, node-in}
+use Rattle.sheet_layout.proofs.Meaning.{ltb-fails, leb-fails, not-fails, or-fails, leb-holds, eqb-holds, and-holds}
+use Rattle.sheet_calls.proofs.Some.{some-fails}
+use Rattle.sheet_calls.proofs.Ranges.{lines-rise, node-in-range}
 
 -- ---- of a sheet
 
@@ -52,7 +53,7 @@ module _ (s : List ℕ) where
 
   nodes-right : (wrongNodes s ≡ false) ↔ ((j : ℕ) → j < rows s → (i : ℕ) → i < columns s → InRange (nodeAt s i j))
   unfolding wrongNodes
-  nodes-right = some-fails (rows s) (λ j. some-fails (columns s) (λ i. not-fails (node-in (nodeAt s i j))))
+  nodes-right = some-fails (rows s) (λ j. some-fails (columns s) (λ i. not-fails (node-in-range (nodeAt s i j))))
 
 -- ---- of a call's other input
 
@@ -89,5 +90,5 @@ condition-laws = record {
   eight = empty-right;
   nine = λ kind. ltb-fails 2 kind;
   ten = λ s i j. or-fails (leb-fails (columns s) i) (leb-fails (rows s) j);
-  eleven = λ v. not-fails (node-in v);
+  eleven = λ v. not-fails (node-in-range v);
 }

@@ -2,7 +2,7 @@
 use mathlib.Core.Path.{_≡_, refl}
 use mathlib.Core.List.{map}
 use Rattle.sheet_words.specs.Word.{signed, bitsOf, bytesOf}
-use Rattle.sheet_layout.specs.Format.{marked, supported, countIn, decoded, encoded, heightIn, slopeIn, nodeIn, nodeAt, heightAt, slopeXAt, slopeYAt}
+use Rattle.sheet_layout.specs.Format.{marked, supported, countIn, decoded, encoded, heightIn, slopeIn, nodeIn, nodeAt, heightAt}
 use Rattle.sheet_calls.specs.Refusals.{some, otherMark, otherVersion, otherCounts, otherLength, wrongStep, wrongLine, wrongLines, wrongNodes, outside, offMesh, emptyRun, otherKind, noNode, wrongNumbers, table, first, member, part, checkRefusal, lookupRefusal, settingRefusal, readingRefusal, runRefusal}
 use Rattle.sheet_calls.specs.Calls.{lookedUp, withNode}
 use Rattle.sheet_calls.specs.Examples.{checked, Examples}
@@ -12,11 +12,9 @@ unfolding signed marked supported countIn decoded heightIn slopeIn nodeIn nodeAt
 checks = refl
 
 pub examples : Examples
-unfolding signed bitsOf bytesOf marked supported countIn decoded encoded heightIn slopeIn nodeIn nodeAt heightAt slopeXAt slopeYAt some otherMark otherVersion otherCounts otherLength wrongStep wrongLine wrongLines wrongNodes outside offMesh emptyRun otherKind noNode wrongNumbers table first member part lookupRefusal settingRefusal readingRefusal runRefusal lookedUp withNode
+unfolding signed bitsOf bytesOf marked supported countIn decoded encoded heightIn slopeIn nodeIn nodeAt heightAt some otherMark otherVersion otherCounts otherLength wrongStep wrongLine wrongLines wrongNodes outside offMesh emptyRun otherKind noNode wrongNumbers table first member part lookupRefusal settingRefusal readingRefusal runRefusal lookedUp withNode
 examples = record {
   checks = checks;
-  corner = refl;
-  grains = refl;
   lower = refl;
   lastNode = refl;
   columnTooFar = refl;
@@ -35,10 +33,6 @@ examples = record {
   oneTooMany = refl;
   noPixel = refl;
   noPixelOutside = refl;
-  rowEnd = refl;
-  rowStart = refl;
-  alongX = refl;
-  alongY = refl;
   thirdColumn = refl;
   thirdRow = refl;
   leftTop = refl;

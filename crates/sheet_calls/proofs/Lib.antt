@@ -1,14 +1,10 @@
 pub mod Some
-pub mod Meaning
 pub mod Ranges
 pub mod Conditions
 pub mod Chains
 pub mod FirstHolds
 pub mod WellFormed
-pub mod Encoding
-pub mod Offsets
-pub mod SameFront
-pub mod Written
+pub mod StaysWellFormed
 pub mod Lookup
 pub mod Setting
 pub mod Examples

@@ -7,12 +7,12 @@ use native.Mathlib.Omega.{arith}
 use lib.ListN.{length}
 use borrow.Author.Tests.{eq-eqb, ne-eqb}
 use Rattle.sheet_layout.specs.Format.{decoded, nodeSize, nodeOffset, nodeAt}
+use Rattle.sheet_layout.proofs.Offsets.{node-fits}
 use Rattle.sheet_calls.specs.Refusals.{lookupRefusal}
 use Rattle.sheet_calls.specs.Calls.{span, lookedUp, bytesIn}
 use Rattle.sheet_calls.specs.NodeLaws.{LookupLaws}
 use Rattle.sheet_calls.proofs.Chains.{HasNode, lookup-held}
-use Rattle.sheet_calls.proofs.WellFormed.{accepted-laws}
-use Rattle.sheet_calls.proofs.Offsets.{node-fits}
+use Rattle.sheet_calls.proofs.WellFormed.{nodes-there}
 
 found : (s : List ℕ) (i j : ℕ) → lookupRefusal s i j ≡ 0 → lookedUp s i j ≡ span (nodeOffset s i j) nodeSize
 unfolding lookedUp
@@ -24,7 +24,7 @@ refused s i j h = rw (ne-eqb _ _ h) refl
 
 -- a node that the sheet has lies in it
 pub has-fits : {s : List ℕ} {i j : ℕ} → HasNode s i j → nodeOffset s i j + nodeSize ≤ length s
-has-fits {s} {i} {j} h = node-fits (accepted-laws .sound s (h .accepted)) i j (h .column) (h .row)
+has-fits {s} {i} {j} h = node-fits s (nodes-there s (h .accepted)) i j (h .column) (h .row)
 
 pub node-there : (s : List ℕ) (i j : ℕ) → lookupRefusal s i j ≡ 0 → nodeOffset s i j + nodeSize ≤ length s
 node-there s i j e = has-fits (lookup-held s i j e)

@@ -3,13 +3,12 @@ use Prim.Native.Nat.{ℕ, zero, suc, _+_, _≤_, _<_}
 use mathlib.Core.Path.{_≡_}
 use mathlib.Core.Logic.{_↔_, Iff·trans}
 use mathlib.Core.Bool.{true, false}
-use lib.Dec.{leb}
-use lib.IntN.{ℤ, natAbs}
-use Rattle.integers.specs.Within.{_within_}
-use Rattle.sheet_layout.specs.Format.{furthest, widest, Node, highest, steepest, heightIn, slopeIn, nodeIn}
+use Rattle.sheet_layout.specs.Format.{furthest, widest, Node, nodeIn}
 use Rattle.sheet_calls.specs.Refusals.{some, wrongStep, wrongLine}
 use Rattle.sheet_calls.specs.WellFormed.{Rising, InRange}
-use Rattle.sheet_calls.proofs.Meaning.{ltb-fails, leb-fails, or-fails, some-fails, leb-holds, and-holds}
+use Rattle.sheet_layout.proofs.Meaning.{ltb-fails, leb-fails, or-fails}
+use Rattle.sheet_layout.proofs.Ranges.{node-in}
+use Rattle.sheet_calls.proofs.Some.{some-fails}
 
 -- ---- lines
 
@@ -45,11 +44,7 @@ module _ (line : ℕ → ℕ) where
 
 -- ---- nodes
 
-within-holds : (z : ℤ) (N : ℕ) → (leb (natAbs z) N ≡ true) ↔ (z within N)
-within-holds z N = let h = leb-holds (natAbs z) N in (λ e. record { bound = h .0 e }, λ w. h .1 (w .bound))
-
-pub node-in : (v : Node) → (nodeIn v ≡ true) ↔ InRange v
-unfolding nodeIn heightIn slopeIn
-node-in v =
-    let h = and-holds (and-holds (within-holds (v .storedHeight) highest) (within-holds (v .slopeX) steepest)) (within-holds (v .slopeY) steepest) in
+pub node-in-range : (v : Node) → (nodeIn v ≡ true) ↔ InRange v
+node-in-range v =
+    let h = node-in v in
     (λ e. let ((a, b), c) = h .0 e in record { storedHeight = a; slopeX = b; slopeY = c }, λ r. h .1 ((r .storedHeight, r .slopeX), r .slopeY))

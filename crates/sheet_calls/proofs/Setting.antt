@@ -15,12 +15,13 @@ use Rattle.sheet_calls.specs.Calls.{lookedUp, bytesIn, withNode}
 use Rattle.sheet_calls.specs.WellFormed.{WellFormed}
 use Rattle.sheet_calls.specs.NodeLaws.{Leaves, ReadsBack, SettingLaws}
 use Rattle.sheet_calls.proofs.Chains.{HasNode, lookup-held, lookup-taken, setting-held, setting-taken}
-use Rattle.sheet_calls.proofs.Ranges.{node-in}
+use Rattle.sheet_calls.proofs.Ranges.{node-in-range}
 use Rattle.sheet_calls.proofs.WellFormed.{accepted-laws}
-use Rattle.sheet_calls.proofs.Encoding.{encoded-bytes, encoding-laws}
+use Rattle.sheet_layout.proofs.Encoding.{encoded-bytes, encoding-laws}
 use Rattle.sheet_calls.proofs.Lookup.{has-fits}
-use Rattle.sheet_calls.proofs.SameFront.{SameFront, same-columns, same-rows, same-lineX, same-lineY}
-use Rattle.sheet_calls.proofs.Written.{written, written-length, written-before, written-after, written-bytes, written-node, written-others, written-again, written-same, written-well-formed}
+use Rattle.sheet_layout.proofs.SameFront.{SameFront, same-columns, same-rows, same-lineX, same-lineY}
+use Rattle.sheet_layout.proofs.Written.{written, written-length, written-before, written-after, written-bytes, written-node, written-others, written-again, written-same}
+use Rattle.sheet_calls.proofs.StaysWellFormed.{written-well-formed}
 
 -- ---- set or refused
 
@@ -110,7 +111,7 @@ same s i j bytes = with-node-ind s i j (nodeAt s i j) (λ t. t ≡ s) refl (λ h
 same-taken : (s : List ℕ) (i j : ℕ) → lookupRefusal s i j ≡ 0 → settingRefusal s i j (nodeAt s i j) ≡ 0
 same-taken s i j e =
     let h = lookup-held s i j e in
-    setting-taken (nodeAt s i j) h (node-in (nodeAt s i j) .1 (well-formed h .ranges i j (h .column) (h .row)))
+    setting-taken (nodeAt s i j) h (node-in-range (nodeAt s i j) .1 (well-formed h .ranges i j (h .column) (h .row)))
 
 leaves : (s : List ℕ) (i j : ℕ) (v : Node) → Leaves s i j (withNode s i j v)
 leaves s i j v = record {

@@ -1,7 +1,7 @@
 -- The laws of `some`: it is false exactly when the test is false of every number below n. Assumes nothing.
 use Prim.Native.Nat.{ℕ, zero, suc, _<_}
 use mathlib.Core.Path.{_≡_, refl}
-use mathlib.Core.Logic.{⊎-elim}
+use mathlib.Core.Logic.{⊎-elim, _↔_}
 use mathlib.Core.Bool.{Bool, false}
 use mathlib.Mathlib.Data.Bool.Basic.{or-eq-false-eq-eq-false-and-eq-false}
 use native.Mathlib.Nat.{le-of-suc-le-suc, le-step, lt-suc-self, eq-or-lt-of-le}
@@ -20,3 +20,7 @@ module _ (p : ℕ → Bool) where
   unfolding some
   some-false zero h = refl
   some-false (suc n) h = rw (some-false n (λ k l. h k (le-step l))) (h n (lt-suc-self n))
+
+-- so it says of each what the test says there
+pub some-fails : {p : ℕ → Bool} {P : ℕ → Type 0} (n : ℕ) → ((k : ℕ) → (p k ≡ false) ↔ P k) → (some p n ≡ false) ↔ ((k : ℕ) → k < n → P k)
+some-fails {p} n h = (λ e k l. h k .0 (some-false-at p n e k l), λ f. some-false p n (λ k l. h k .1 (f k l)))

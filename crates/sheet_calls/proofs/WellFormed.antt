@@ -1,12 +1,12 @@
 -- The accepted sheets are the well-formed ones, condition by condition; and the longest. Assumes nothing.
 use Prim.Native.Nat.{ℕ, _≤_}
-use mathlib.Core.Path.{_≡_}
+use mathlib.Core.Path.{_≡_, sym}
 use mathlib.Core.List.{List}
 use mathlib.Core.Bool.{false}
-use native.Mathlib.Nat.{mul-le-mul}
+use native.Mathlib.Nat.{mul-le-mul, le-of-eq}
 use native.Mathlib.Omega.{arith}
 use lib.ListN.{length}
-use Rattle.sheet_layout.specs.Format.{headerSize}
+use Rattle.sheet_layout.specs.Format.{headerSize, columns, rows, nodesOffset, sizeOf}
 use Rattle.sheet_calls.specs.Refusals.{otherMark, otherVersion, otherCounts, otherLength, wrongLines, wrongNodes, table, member, part, sheetChecks, ofSheet, checkRefusal, Accepted}
 use Rattle.sheet_calls.specs.WellFormed.{WellFormed, AcceptedLaws}
 use Rattle.sheet_calls.proofs.FirstHolds.{none-given, none-of-table}
@@ -72,6 +72,12 @@ longest s a = let w = sound s a in omega (arith, w .whole, w .manyColumns, w .ma
 pub accepted-laws : AcceptedLaws
 accepted-laws = record { sound = sound; complete = complete; longest = longest }
 
--- so its header can be read
+-- so its header, its lines and its nodes can be read
 pub header-there : (s : List ℕ) → Accepted s → headerSize ≤ length s
 header-there s a = omega (arith, sound s a .whole)
+
+pub lines-there : (s : List ℕ) → Accepted s → nodesOffset s ≤ length s
+lines-there s a = omega (arith, sound s a .whole)
+
+pub nodes-there : (s : List ℕ) → Accepted s → sizeOf (columns s) (rows s) ≤ length s
+nodes-there s a = le-of-eq (sym (sound s a .whole))

@@ -4,33 +4,10 @@ use mathlib.Core.Path.{_≡_}
 use mathlib.Core.List.{List, [], _∷_, _++_, map}
 use lib.ListN.{take, set}
 use lib.IntN.{pos, negsuc}
-use Rattle.sheet_layout.specs.Format.{node, nodeAt, heightAt, slopeXAt, slopeYAt}
+use Rattle.sheet_layout.specs.Format.{node, heightAt}
+use Rattle.sheet_layout.specs.Examples.{square, header, flat, sheetA, oblong}
 use Rattle.sheet_calls.specs.Refusals.{checkRefusal, lookupRefusal, settingRefusal, readingRefusal, runRefusal}
 use Rattle.sheet_calls.specs.Calls.{span, lookedUp, withNode}
-
--- a sheet of two lines each way with this header, the vertical lines at 0 and x, the horizontal ones at 0 and 2, and all numbers 0 but those of node 00
-abbrev pub square : List ℕ → ℕ → List ℕ → List ℕ
-square header x corner =
-    header ++ (0 ∷ 0 ∷ x ∷ 0 ∷ 0 ∷ 0 ∷ 2 ∷ 0 ∷ []) ++ corner ++
-    (0 ∷ 0 ∷ 0 ∷ 0 ∷ 0 ∷ 0 ∷ 0 ∷ 0 ∷ 0 ∷ 0 ∷ 0 ∷ 0 ∷ 0 ∷ 0 ∷ 0 ∷ 0 ∷ 0 ∷ 0 ∷ [])
-
-abbrev pub header : List ℕ
-header = 0x4C ∷ 0x56 ∷ 0x53 ∷ 1 ∷ 0 ∷ 2 ∷ 2 ∷ 0 ∷ []
-
--- a height and two slopes of 0
-abbrev pub flat : ℕ → ℕ → List ℕ
-flat low high = low ∷ high ∷ 0 ∷ 0 ∷ 0 ∷ 0 ∷ []
-
--- 01's sheet A
-abbrev pub sheetA : List ℕ
-sheetA = square header 2 (flat 1 0)
-
--- 3 columns and 2 rows, the vertical lines at 4,000, 4,050 and 4,096, the horizontal ones at 5 and 9, the nodes' numbers 1 to 18 in order
-abbrev pub oblong : List ℕ
-oblong =
-    (0x4C ∷ 0x56 ∷ 0x53 ∷ 1 ∷ 0 ∷ 3 ∷ 2 ∷ 0 ∷ []) ++ (160 ∷ 15 ∷ 210 ∷ 15 ∷ 0 ∷ 16 ∷ 5 ∷ 0 ∷ 9 ∷ 0 ∷ []) ++
-    (1 ∷ 0 ∷ 2 ∷ 0 ∷ 3 ∷ 0 ∷ 4 ∷ 0 ∷ 5 ∷ 0 ∷ 6 ∷ 0 ∷ 7 ∷ 0 ∷ 8 ∷ 0 ∷ 9 ∷ 0 ∷ []) ++
-    (10 ∷ 0 ∷ 11 ∷ 0 ∷ 12 ∷ 0 ∷ 13 ∷ 0 ∷ 14 ∷ 0 ∷ 15 ∷ 0 ∷ 16 ∷ 0 ∷ 17 ∷ 0 ∷ 18 ∷ 0 ∷ [])
 
 -- a sheet and what checking it gives
 pub record Checked : Type 0 where
@@ -95,9 +72,7 @@ checked =
 
 pub record Examples : Type 0 where
   pub checks : map (λ e. checkRefusal (e .sheet)) checked ≡ map (λ e. e .gives) checked
-  -- node 00 of sheet A is 1 step high, that is 64 grains; set to −1 step it is 64 grains below
-  pub corner : nodeAt sheetA 0 0 ≡ node (pos 1) (pos 0) (pos 0)
-  pub grains : heightAt sheetA 0 0 ≡ pos 64
+  -- node 00 of sheet A set to −1 step is 64 grains below
   pub lower : heightAt (withNode sheetA 0 0 (node (negsuc 0) (pos 0) (pos 0))) 0 0 ≡ negsuc 63
   -- its last node, and nodes that it does not have
   pub lastNode : lookedUp sheetA 1 1 ≡ span 34 6
@@ -120,11 +95,7 @@ pub record Examples : Type 0 where
   pub oneTooMany : runRefusal sheetA 0 0 4 ≡ 7
   pub noPixel : runRefusal sheetA 0 0 0 ≡ 8
   pub noPixelOutside : runRefusal sheetA 3 0 0 ≡ 7
-  -- nodes lie row by row: the last of the first row, the first of the second; the third column and no third row
-  pub rowEnd : nodeAt oblong 2 0 ≡ node (pos 7) (pos 8) (pos 9)
-  pub rowStart : nodeAt oblong 0 1 ≡ node (pos 10) (pos 11) (pos 12)
-  pub alongX : slopeXAt oblong 2 0 ≡ pos 8
-  pub alongY : slopeYAt oblong 2 0 ≡ pos 9
+  -- the third column and no third row
   pub thirdColumn : lookupRefusal oblong 2 1 ≡ 0
   pub thirdRow : lookupRefusal oblong 1 2 ≡ 10
   -- the pixels on its outer lines, and those just outside

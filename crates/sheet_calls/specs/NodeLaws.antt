@@ -1,19 +1,12 @@
--- Nodes: their numbers and bytes are inverse; what looking one up hands back; what setting one changes and leaves. Assumes nothing.
+-- Nodes: what looking one up hands back; what setting one changes and leaves. Assumes nothing.
 use Prim.Native.Nat.{ℕ, _+_, _*_, _≤_, _<_}
 use mathlib.Core.Path.{_≡_}
 use mathlib.Core.List.{List}
-use mathlib.Core.Bool.{true}
 use lib.ListN.{length}
 use Rattle.sheet_words.specs.Word.{byteAt, Bytes}
-use Rattle.sheet_layout.specs.Format.{columns, rows, lineX, lineY, Node, decoded, encoded, nodeIn, nodeSize, nodeOffset, nodeAt}
+use Rattle.sheet_layout.specs.Format.{columns, rows, lineX, lineY, Node, decoded, encoded, nodeSize, nodeOffset, nodeAt}
 use Rattle.sheet_calls.specs.Refusals.{lookupRefusal, settingRefusal, Accepted}
 use Rattle.sheet_calls.specs.Calls.{span, lookedUp, bytesIn, withNode}
-
--- a node's numbers and its bytes are inverse to each other on the range
-pub record EncodingLaws : Type 0 where
-  pub encodedSize : (v : Node) → length (encoded v) ≡ nodeSize
-  pub decodedEncoded : (v : Node) → nodeIn v ≡ true → decoded (encoded v) ≡ v
-  pub encodedDecoded : (b : List ℕ) → Bytes b → length b ≡ nodeSize → encoded (decoded b) ≡ b
 
 -- looking up hands back the six bytes of the node, or, refused, none from the start
 pub record LookupLaws : Type 0 where

@@ -2,7 +2,7 @@
 ghost use mathlib.Core.Path.{_≡_};
 ghost use Rattle.sheet_calls.specs.RefusalLaws.{RefusalLaws};
 ghost use Rattle.sheet_calls.specs.WellFormed.{ConditionLaws, AcceptedLaws};
-ghost use Rattle.sheet_calls.specs.NodeLaws.{EncodingLaws, LookupLaws, SettingLaws};
+ghost use Rattle.sheet_calls.specs.NodeLaws.{LookupLaws, SettingLaws};
 ghost use Rattle.sheet_calls.specs.Examples.{Examples};
 
 pub fn refusal_laws() -> u64
@@ -19,12 +19,6 @@ pub fn condition_laws() -> u64
 
 pub fn accepted_laws() -> u64
     ensures { λ r. ⌜ (r ≡ 0) × AcceptedLaws ⌝ }
-{
-    0
-}
-
-pub fn encoding_laws() -> u64
-    ensures { λ r. ⌜ (r ≡ 0) × EncodingLaws ⌝ }
 {
     0
 }

@@ -4,14 +4,16 @@ ghost use mathlib.Core.Bool.{false, not};
 ghost use Prim.Native.Nat.{_+_, _*_, _≤_, _<_};
 ghost use lib.ListN.{length};
 ghost use Rattle.sheet_words.specs.Word.{wordAt, signed};
-ghost use Rattle.sheet_layout.specs.Format.{headerSize, columns, rows, lineX, lineY, countIn, slopeIn, nodeSize, nodesOffset, nodeOffset, sizeOf};
-ghost use Rattle.sheet_calls.specs.Refusals.{some, otherMark, otherVersion, otherCounts, otherLength, wrongStep, wrongLine, wrongLines, wrongNodes, checkRefusal, Accepted};
+ghost use Rattle.sheet_layout.specs.Format.{headerSize, columns, rows, lineFrom, countIn, slopeIn, sizeOf};
+ghost use Rattle.sheet_calls.specs.Refusals.{some, otherMark, otherVersion, otherCounts, otherLength, wrongStep, wrongLine, wrongLines, wrongNodes, checkRefusal};
 use sheet_layout::HEADER_SIZE;
 use sheet_layout::NODE_SIZE;
 use sheet_layout::columns;
+use sheet_layout::line;
 use sheet_layout::node_count;
 use sheet_layout::nodes_offset;
 use sheet_layout::rows;
+use sheet_layout::y_lines_offset;
 use sheet_words::word;
 
 // 0 where the sheet is accepted, else the number of the first condition that holds.
@@ -87,21 +89,20 @@ fn wrong_lines(sheet: &[u8]) -> bool
     requires { ⌜ (0 < columns (now sheet)) × (0 < rows (now sheet)) × (length (now sheet) ≡ sizeOf (columns (now sheet)) (rows (now sheet))) ⌝ }
     ensures { λ r. ⌜ r ≡ wrongLines (now (sheet .entry)) ⌝ }
 {
-    let m = columns(sheet);
-    let n = rows(sheet);
-    wrong_axis(sheet, HEADER_SIZE, m) | wrong_axis(sheet, HEADER_SIZE + 2 * m, n)
+    let across = wrong_axis(sheet, HEADER_SIZE, columns(sheet));
+    let down = wrong_axis(sheet, y_lines_offset(sheet), rows(sheet));
+    across | down
 }
 
 // Whether one of an axis's lines, from index `start` on, is wrong. No early exit: the compiler may look at several lines at once.
 fn wrong_axis(sheet: &[u8], start: usize, lines: usize) -> bool
     requires { ⌜ (0 < lines) × (start + 2 * lines ≤ length (now sheet)) ⌝ }
-    ensures { λ r. ⌜ r ≡ some (wrongLine (λ k. wordAt (now (sheet .entry)) (start + 2 * k))) lines ⌝ }
+    ensures { λ r. ⌜ r ≡ some (wrongLine (lineFrom (now (sheet .entry)) start)) lines ⌝ }
 {
-    let mut wrong = 4096 < word(sheet, start);
+    let mut wrong = 4096 < line(sheet, start, 0);
     let mut k = 1;
     while k < lines {
-        let at = start + 2 * k;
-        wrong = wrong | wrong_step(word(sheet, at - 2), word(sheet, at));
+        wrong = wrong | wrong_step(line(sheet, start, k - 1), line(sheet, start, k));
         k += 1;
     }
     wrong
@@ -141,28 +142,4 @@ fn in_range(bits: u32) -> bool
     ensures { λ r. ⌜ r ≡ slopeIn (signed bits) ⌝ }
 {
     (bits <= 4095) | (61441 <= bits)
-}
-
-// The position of a vertical line.
-pub fn line_x(sheet: &[u8], i: usize) -> u32
-    requires { ⌜ Accepted (now sheet) × (i < columns (now sheet)) ⌝ }
-    ensures { λ r. ⌜ r ≡ lineX (now (sheet .entry)) i ⌝ }
-{
-    word(sheet, HEADER_SIZE + 2 * i)
-}
-
-// The position of a horizontal line.
-pub fn line_y(sheet: &[u8], j: usize) -> u32
-    requires { ⌜ Accepted (now sheet) × (j < rows (now sheet)) ⌝ }
-    ensures { λ r. ⌜ r ≡ lineY (now (sheet .entry)) j ⌝ }
-{
-    word(sheet, HEADER_SIZE + 2 * columns(sheet) + 2 * j)
-}
-
-// Where a node's bytes start.
-pub fn node_offset(sheet: &[u8], column: usize, row: usize) -> usize
-    requires { ⌜ Accepted (now sheet) × (column < columns (now sheet)) × (row < rows (now sheet)) ⌝ }
-    ensures { λ r. ⌜ (r ≡ nodeOffset (now (sheet .entry)) column row) × (r + nodeSize ≤ length (now (sheet .entry))) ⌝ }
-{
-    nodes_offset(sheet) + NODE_SIZE * (row * columns(sheet) + column)
 }

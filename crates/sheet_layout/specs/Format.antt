@@ -51,13 +51,17 @@ xLinesOffset = headerSize
 abbrev pub yLinesOffset : List ℕ → ℕ
 yLinesOffset s = xLinesOffset + 2 * columns s
 
+-- the position of line k of an axis whose positions start at an index
+abbrev pub lineFrom : List ℕ → ℕ → ℕ → ℕ
+lineFrom s start k = wordAt s (start + 2 * k)
+
 -- the x-position of vertical line i
 abbrev pub lineX : List ℕ → ℕ → ℕ
-lineX s i = wordAt s (xLinesOffset + 2 * i)
+lineX s i = lineFrom s xLinesOffset i
 
 -- the y-position of horizontal line j
 abbrev pub lineY : List ℕ → ℕ → ℕ
-lineY s j = wordAt s (yLinesOffset s + 2 * j)
+lineY s j = lineFrom s (yLinesOffset s) j
 
 -- no line lies further
 abbrev pub furthest : ℕ

@@ -1,1 +1,3 @@
 pub mod Format
+pub mod EncodingLaws
+pub mod Examples

@@ -1,11 +1,20 @@
-// The bytes of a sheet: where its parts lie, and what they hold.
-ghost use mathlib.Core.Path.{_≡_};
-ghost use Prim.Native.Nat.{_*_, _≤_, _<_};
-ghost use lib.ListN.{length};
-ghost use Rattle.sheet_layout.specs.Format.{headerSize, columns, rows, nodesOffset};
-use sheet_words::wide;
+// The bytes of a sheet: where its parts lie, what they hold, and a node's bytes read and written.
+pub mod theorems;
 
-// How many bytes the header has.
+ghost use mathlib.Core.Path.{_≡_};
+ghost use mathlib.Core.List.{[], _∷_};
+ghost use mathlib.Core.Bool.{true};
+ghost use Prim.Native.Nat.{_+_, _*_, _≤_, _<_};
+ghost use lib.ListN.{length};
+ghost use Rattle.sheet_words.specs.Word.{replaced};
+ghost use Rattle.sheet_layout.specs.Format.{headerSize, columns, rows, yLinesOffset, lineFrom, lineX, lineY, node, encoded, nodeIn, nodeSize, nodesOffset, nodeOffset, sizeOf, heightAt, slopeXAt, slopeYAt};
+use sheet_words::bits_of;
+use sheet_words::put_word;
+use sheet_words::signed_word;
+use sheet_words::wide;
+use sheet_words::word;
+
+// How many bytes the header has; the vertical lines' positions start behind it.
 pub const HEADER_SIZE: usize = 8;
 
 // How many bytes a node has.
@@ -26,12 +35,44 @@ pub fn rows(sheet: &[u8]) -> usize
     wide(sheet[6]) as usize
 }
 
+// Where the horizontal lines' positions start.
+pub fn y_lines_offset(sheet: &[u8]) -> usize
+    requires { ⌜ headerSize ≤ length (now sheet) ⌝ }
+    ensures { λ r. ⌜ (r ≡ yLinesOffset (now (sheet .entry))) × (r ≤ 518) ⌝ }
+{
+    HEADER_SIZE + 2 * columns(sheet)
+}
+
+// The position of line k of an axis whose positions start at an index.
+pub fn line(sheet: &[u8], start: usize, k: usize) -> u32
+    requires { ⌜ start + 2 * k + 1 < length (now sheet) ⌝ }
+    ensures { λ r. ⌜ (r ≡ lineFrom (now (sheet .entry)) start k) × (r < 65536) ⌝ }
+{
+    word(sheet, start + 2 * k)
+}
+
+// The position of a vertical line.
+pub fn line_x(sheet: &[u8], i: usize) -> u32
+    requires { ⌜ (nodesOffset (now sheet) ≤ length (now sheet)) × (i < columns (now sheet)) ⌝ }
+    ensures { λ r. ⌜ r ≡ lineX (now (sheet .entry)) i ⌝ }
+{
+    line(sheet, HEADER_SIZE, i)
+}
+
+// The position of a horizontal line.
+pub fn line_y(sheet: &[u8], j: usize) -> u32
+    requires { ⌜ (nodesOffset (now sheet) ≤ length (now sheet)) × (j < rows (now sheet)) ⌝ }
+    ensures { λ r. ⌜ r ≡ lineY (now (sheet .entry)) j ⌝ }
+{
+    line(sheet, y_lines_offset(sheet), j)
+}
+
 // Where the nodes start.
 pub fn nodes_offset(sheet: &[u8]) -> usize
     requires { ⌜ headerSize ≤ length (now sheet) ⌝ }
     ensures { λ r. ⌜ (r ≡ nodesOffset (now (sheet .entry))) × (r ≤ 1028) ⌝ }
 {
-    HEADER_SIZE + 2 * columns(sheet) + 2 * rows(sheet)
+    y_lines_offset(sheet) + 2 * rows(sheet)
 }
 
 // How many nodes there are.
@@ -40,4 +81,36 @@ pub fn node_count(sheet: &[u8]) -> usize
     ensures { λ r. ⌜ (r ≡ columns (now (sheet .entry)) * rows (now (sheet .entry))) × (r ≤ 65536) ⌝ }
 {
     columns(sheet) * rows(sheet)
+}
+
+// Where a node's bytes start.
+pub fn node_offset(sheet: &[u8], column: usize, row: usize) -> usize
+    requires { ⌜ (sizeOf (columns (now sheet)) (rows (now sheet)) ≤ length (now sheet)) × (column < columns (now sheet)) × (row < rows (now sheet)) ⌝ }
+    ensures { λ r. ⌜ (r ≡ nodeOffset (now (sheet .entry)) column row) × (r + nodeSize ≤ length (now (sheet .entry))) ⌝ }
+{
+    nodes_offset(sheet) + NODE_SIZE * (row * columns(sheet) + column)
+}
+
+// A node's height in grains, 64 to a step, and its slopes in grains per pixel.
+pub fn node_numbers(sheet: &[u8], column: usize, row: usize) -> [i64; 3]
+    requires { ⌜ (sizeOf (columns (now sheet)) (rows (now sheet)) ≤ length (now sheet)) × (column < columns (now sheet)) × (row < rows (now sheet)) ⌝ }
+    ensures { λ r. ⌜ r ≡ heightAt (now (sheet .entry)) column row ∷ slopeXAt (now (sheet .entry)) column row ∷ slopeYAt (now (sheet .entry)) column row ∷ [] ⌝ }
+{
+    let at = node_offset(sheet, column, row);
+    [
+        64 * signed_word(sheet, at),
+        signed_word(sheet, at + 2),
+        signed_word(sheet, at + 4),
+    ]
+}
+
+// Writes a node's numbers, a height in steps and two slopes, to the bytes at index `at`.
+pub fn put_node(sheet: &mut [u8], at: usize, height: i32, x_slope: i32, y_slope: i32)
+    requires { ⌜ at + nodeSize ≤ length (now sheet) ⌝ }
+    requires { ⌜ nodeIn (node height «x_slope» «y_slope») ≡ true ⌝ }
+    ensures { λ _. ⌜ now (sheet .exit) ≡ replaced (now (sheet .entry)) at (encoded (node height «x_slope» «y_slope»)) ⌝ }
+{
+    put_word(sheet, at, bits_of(height));
+    put_word(sheet, at + 2, bits_of(x_slope));
+    put_word(sheet, at + 4, bits_of(y_slope));
 }

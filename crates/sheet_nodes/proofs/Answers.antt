@@ -14,7 +14,7 @@ use Rattle.sheet_calls.specs.Calls.{span, lookedUp, withNode}
 use Rattle.sheet_calls.proofs.Chains.{refused-by, passed-by, lookup-is, setting-is}
 use Rattle.sheet_calls.proofs.Lookup.{lookup-laws}
 use Rattle.sheet_calls.proofs.Setting.{set-is, refused-is}
-use Rattle.sheet_nodes.proofs.Numbers.{back}
+use Rattle.sheet_layout.proofs.Numbers.{back}
 
 -- ---- the lookup's
 

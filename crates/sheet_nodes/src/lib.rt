@@ -1,19 +1,16 @@
 // Nodes of a sheet: looked up, with the number of a refusal beside, and set.
 ghost use mathlib.Core.Path.{_≡_};
-ghost use mathlib.Core.Bool.{false};
 ghost use Prim.Native.Nat.{_+_, _≤_};
 ghost use lib.ListN.{length};
-ghost use Rattle.sheet_words.specs.Word.{replaced};
-ghost use Rattle.sheet_layout.specs.Format.{headerSize, node, encoded, slopeIn, nodeSize, nodeOffset};
+ghost use Rattle.sheet_layout.specs.Format.{headerSize, node, slopeIn, nodeSize, nodeOffset};
 ghost use Rattle.sheet_calls.specs.Refusals.{noNode, wrongNumbers, lookupRefusal, settingRefusal};
 ghost use Rattle.sheet_calls.specs.Calls.{lookedUp, span, Part, withNode};
 use sheet_checking::check;
-use sheet_checking::node_offset;
 use sheet_layout::NODE_SIZE;
 use sheet_layout::columns;
+use sheet_layout::node_offset;
+use sheet_layout::put_node;
 use sheet_layout::rows;
-use sheet_words::bits_of;
-use sheet_words::put_word;
 
 // The node's bytes, where they lie in the sheet; or, refused, none from its start.
 pub fn node(sheet: &[u8], column: u32, row: u32) -> &[u8]
@@ -99,15 +96,4 @@ fn in_range(x: i32) -> bool
     ensures { λ r. ⌜ r ≡ slopeIn x ⌝ }
 {
     (-4095 <= x) & (x <= 4095)
-}
-
-// Writes a node's numbers to the bytes at index `at`.
-fn put_node(sheet: &mut [u8], at: usize, height: i32, x_slope: i32, y_slope: i32)
-    requires { ⌜ at + nodeSize ≤ length (now sheet) ⌝ }
-    requires { ⌜ wrongNumbers (node height «x_slope» «y_slope») ≡ false ⌝ }
-    ensures { λ _. ⌜ now (sheet .exit) ≡ replaced (now (sheet .entry)) at (encoded (node height «x_slope» «y_slope»)) ⌝ }
-{
-    put_word(sheet, at, bits_of(height));
-    put_word(sheet, at + 2, bits_of(x_slope));
-    put_word(sheet, at + 4, bits_of(y_slope));
 }

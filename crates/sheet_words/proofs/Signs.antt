@@ -4,7 +4,7 @@ use mathlib.Core.Path.{_≡_, refl, ap}
 use native.Mathlib.Decide.{decLe}
 use native.Mathlib.Omega.{arith}
 use lib.IntN.{ℤ, pos, negsuc, natAbs, _+ℤ_, _-ℤ_}
-use lib.Dec.{ltb, leb→le, ltb→lt}
+use lib.Dec.{ltb, leb→le, ltb→lt, nltb→le}
 use lib.Signed.{_≤ℤ_, _<ℤ_}
 use borrow.Author.Tests.{lt-ltb, le-ltb}
 use Rattle.integers.specs.Within.{_within_}
@@ -43,6 +43,13 @@ signed-raised w k = elim (decLe 32768 w) [
   | yes h ↦ rw (le-ltb w 32768 h) (subℕ-neg ((w + 32768) % 65536) 32768 (65535 - w) (omega arith))
   | no h ↦ let l : w < 32768 = omega arith in rw (lt-ltb w 32768 l) (subℕ-pos ((w + 32768) % 65536) 32768 w (omega arith))
 ]
+
+pub signed-within : (w : ℕ) → w < 65536 → signed w within 32768
+unfolding signed
+signed-within w h =
+    cond-ind (ltb w 32768) (pos w) (negsuc (65535 - w)) (λ z. z within 32768)
+    (λ t. let k = ltb→lt w 32768 t in record { bound = omega (arith, k) })
+    (λ t. let k = nltb→le w 32768 t in record { bound = omega (arith, k, h) })
 
 -- ---- they are inverse
 

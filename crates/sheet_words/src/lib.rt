@@ -18,7 +18,7 @@ pub fn word(s: &[u8], at: usize) -> u32
 // The signed number in the two bytes at index `at`.
 pub fn signed_word(s: &[u8], at: usize) -> i64
     requires { ⌜ at + 1 < length (now s) ⌝ }
-    ensures { λ r. ⌜ r ≡ signed (wordAt (now (s .entry)) at) ⌝ }
+    ensures { λ r. ⌜ (r ≡ signed (wordAt (now (s .entry)) at)) × (r within 32768) ⌝ }
 {
     // up by 32,768, around at 65,536, and down again: the compiler makes one signed load of it
     let raised = (word(s, at) + 32768) % 65536;

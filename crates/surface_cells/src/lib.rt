@@ -1,14 +1,11 @@
 // The corner numbers of a cell of an accepted sheet.
 ghost use mathlib.Core.Path.{_≡_};
-ghost use Prim.Native.Nat.{_<_};
 ghost use Rattle.element_sibson.specs.Element.{cornerNumbers};
-ghost use Rattle.sheet_layout.specs.Format.{columns, rows};
 ghost use Rattle.sheet_calls.specs.Refusals.{Accepted};
-ghost use Rattle.element_corners.specs.Held.{three, arrays, Side, cell};
+ghost use Rattle.element_corners.specs.Held.{arrays, Side, cell};
 ghost use Rattle.surface_of_sheet.specs.Place.{HasCell};
-ghost use Rattle.surface_of_sheet.specs.Surface.{nodeNumbers, nodesOf};
-use sheet_checking::node_offset;
-use sheet_words::signed_word;
+ghost use Rattle.surface_of_sheet.specs.Surface.{nodesOf};
+use sheet_layout::node_numbers;
 
 // The twelve of the cell in a column and row: of each corner the height in grains, the width times the x-slope, the height times the y-slope.
 pub fn corner_numbers(
@@ -34,18 +31,5 @@ fn corner_nodes(sheet: &[u8], column: usize, row: usize) -> [[i64; 3]; 4]
         node_numbers(sheet, column + 1, row),
         node_numbers(sheet, column, row + 1),
         node_numbers(sheet, column + 1, row + 1),
-    ]
-}
-
-// A node's height in grains, 64 to a step, and its slopes in grains per pixel.
-fn node_numbers(sheet: &[u8], column: usize, row: usize) -> [i64; 3]
-    requires { ⌜ Accepted (now sheet) × (column < columns (now sheet)) × (row < rows (now sheet)) ⌝ }
-    ensures { λ r. ⌜ r ≡ three (nodeNumbers (now (sheet .entry)) column row) ⌝ }
-{
-    let at = node_offset(sheet, column, row);
-    [
-        64 * signed_word(sheet, at),
-        signed_word(sheet, at + 2),
-        signed_word(sheet, at + 4),
     ]
 }

@@ -11,7 +11,7 @@ use Rattle.element_sibson.proofs.Covers.{covering}
 use Rattle.sheet_layout.specs.Format.{columns, rows, lineX, lineY}
 use Rattle.sheet_calls.specs.Refusals.{Accepted}
 use Rattle.sheet_calls.specs.WellFormed.{Inside}
-use Rattle.sheet_calls.proofs.Meaning.{leb-holds, eqb-holds, and-holds}
+use Rattle.sheet_layout.proofs.Meaning.{leb-holds, eqb-holds, and-holds}
 use Rattle.surface_of_sheet.specs.Place.{cellOf, HasCell, Place, pointAt, columnAt, rowAt, place, seen, touches}
 use Rattle.surface_of_sheet.specs.Touching.{Touches, PlaceLaws}
 use Rattle.surface_of_sheet.proofs.Along.{along-starts, along-last, along-in, rise, axis-cell, axis-ends, axis-inside, axis-end}

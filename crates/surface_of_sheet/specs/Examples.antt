@@ -11,7 +11,7 @@ use lib.ListN.{length, replicate}
 use Rattle.element_sibson.specs.Piece.{right, bottom, left}
 use Rattle.element_sibson.specs.Element.{+_, −_}
 use Rattle.sheet_calls.specs.Refusals.{runRefusal}
-use Rattle.sheet_calls.specs.Examples.{header, sheetA}
+use Rattle.sheet_layout.specs.Examples.{header, sheetA}
 use Rattle.surface_answers.specs.Answers.{Outcome, answered}
 use Rattle.surface_of_sheet.specs.Place.{seen, touches}
 use Rattle.surface_of_sheet.specs.Surface.{levelAt, bendXXAt, bendYYAt}

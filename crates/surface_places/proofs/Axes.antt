@@ -5,7 +5,7 @@ use mathlib.Core.Bool.{_||_, or-assoc}
 use mathlib.Core.List.{List}
 use native.Mathlib.Omega.{arith}
 use lib.Dec.{ltb}
-use Rattle.sheet_layout.specs.Format.{columns, rows, xLinesOffset, yLinesOffset, lineX, lineY}
+use Rattle.sheet_layout.specs.Format.{columns, rows, lineFrom, xLinesOffset, yLinesOffset, lineX, lineY}
 use Rattle.sheet_calls.specs.Refusals.{outside, Accepted}
 use Rattle.sheet_calls.specs.WellFormed.{Inside}
 use Rattle.element_sibson.specs.Piece.{pieceAt}
@@ -15,7 +15,7 @@ use Rattle.element_evaluation.specs.declared.Pixel.{Pixel}
 use Rattle.surface_of_sheet.specs.Place.{cellOf, columnAt, rowAt, place}
 use Rattle.surface_of_sheet.proofs.Cells.{sound}
 use Rattle.surface_places.specs.declared.OnAxis.{OnAxis}
-use Rattle.surface_places.specs.Found.{lineFrom, Axis, Between, offAxis, onAxis, holding}
+use Rattle.surface_places.specs.Found.{Axis, Between, offAxis, onAxis, holding}
 use Rattle.element_pieces.specs.Parts.{named}
 use Rattle.surface_places.proofs.Search.{size-side, offset-below}
 

@@ -4,18 +4,13 @@ use mathlib.Core.List.{List}
 use mathlib.Core.Bool.{Bool, _||_}
 use lib.Dec.{ltb}
 use lib.ListN.{length}
-use Rattle.sheet_words.specs.Word.{wordAt}
-use Rattle.sheet_layout.specs.Format.{lineX, lineY}
+use Rattle.sheet_layout.specs.Format.{lineFrom, lineX, lineY}
 use Rattle.sheet_calls.specs.WellFormed.{Rising}
 use Rattle.element_pieces.specs.Parts.{named}
 use Rattle.surface_of_sheet.specs.Place as surface
 use Rattle.surface_of_sheet.specs.Place.{cellAlong}
 use Rattle.surface_places.specs.declared.Place.{Place}
 use Rattle.surface_places.specs.declared.OnAxis.{OnAxis}
-
--- the positions of an axis's lines, from index start on
-abbrev pub lineFrom : List ℕ → ℕ → ℕ → ℕ
-lineFrom s start k = wordAt s (start + 2 * k)
 
 -- an axis with 2 to 65 lines, which lie in the sheet and rise
 pub record Axis (s : List ℕ) (start lines : ℕ) : Type 0 where

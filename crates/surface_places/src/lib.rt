@@ -2,18 +2,20 @@
 ghost use mathlib.Core.Path.{_≡_};
 ghost use Prim.Native.Nat.{_-_};
 ghost use Rattle.element_sibson.specs.Piece.{pieceAt};
+ghost use Rattle.sheet_layout.specs.Format.{lineFrom};
 ghost use Rattle.sheet_calls.specs.Refusals.{outside, Accepted};
 ghost use Rattle.sheet_calls.specs.WellFormed.{Inside};
 ghost use Rattle.element_pieces.specs.Parts.{named};
 ghost use Rattle.element_evaluation.specs.Pixels as pixels;
 ghost use Rattle.surface_of_sheet.specs.Place.{cellAlong, place};
-ghost use Rattle.surface_places.specs.Found.{lineFrom, Axis, Between, offAxis, onAxis, holding};
+ghost use Rattle.surface_places.specs.Found.{Axis, Between, offAxis, onAxis, holding};
 use element_evaluation::Pixel;
 use element_pieces::Piece;
 use sheet_layout::HEADER_SIZE;
 use sheet_layout::columns;
+use sheet_layout::line;
 use sheet_layout::rows;
-use sheet_words::word;
+use sheet_layout::y_lines_offset;
 
 // The cell of a pixel by its column and row, the pixel in that cell, and the piece that it is read from.
 pub struct Place {
@@ -35,10 +37,9 @@ pub fn outside(sheet: &[u8], x: u32, y: u32) -> bool
     requires { ⌜ Accepted (now sheet) ⌝ }
     ensures { λ r. ⌜ r ≡ outside (now (sheet .entry)) x y ⌝ }
 {
-    let m = columns(sheet);
-    let n = rows(sheet);
-    let y_lines = HEADER_SIZE + 2 * m;
-    off_axis(sheet, HEADER_SIZE, m, x) | off_axis(sheet, y_lines, n, y)
+    let across = off_axis(sheet, HEADER_SIZE, columns(sheet), x);
+    let down = off_axis(sheet, y_lines_offset(sheet), rows(sheet), y);
+    across | down
 }
 
 // The place of a pixel of the mesh.
@@ -46,11 +47,8 @@ pub fn find(sheet: &[u8], x: u32, y: u32) -> Place
     requires { ⌜ Accepted (now sheet) × Inside (now sheet) x y ⌝ }
     ensures { λ r. ⌜ r ≡ holding (now (sheet .entry)) (place (now (sheet .entry)) x y) ⌝ }
 {
-    let m = columns(sheet);
-    let n = rows(sheet);
-    let y_lines = HEADER_SIZE + 2 * m;
-    let across = on_axis(sheet, HEADER_SIZE, m, x);
-    let down = on_axis(sheet, y_lines, n, y);
+    let across = on_axis(sheet, HEADER_SIZE, columns(sheet), x);
+    let down = on_axis(sheet, y_lines_offset(sheet), rows(sheet), y);
     let pixel = Pixel {
         a: across.offset,
         b: down.offset,
@@ -91,7 +89,7 @@ fn off_axis(sheet: &[u8], start: usize, lines: usize, position: u32) -> bool
     requires { ⌜ Axis (now sheet) start lines ⌝ }
     ensures { λ r. ⌜ r ≡ offAxis (lineFrom (now (sheet .entry)) start) lines position ⌝ }
 {
-    (position < word(sheet, start)) | (word(sheet, start + 2 * lines - 2) < position)
+    (position < line(sheet, start, 0)) | (line(sheet, start, lines - 1) < position)
 }
 
 // Where a position between the first and the last line of an axis lies.
@@ -100,8 +98,8 @@ fn on_axis(sheet: &[u8], start: usize, lines: usize, position: u32) -> OnAxis
     ensures { λ r. ⌜ r ≡ onAxis (lineFrom (now (sheet .entry)) start) (lines - 2) position ⌝ }
 {
     let cell = cell_along(sheet, start, lines, position);
-    let before = word(sheet, start + 2 * cell);
-    let after = word(sheet, start + 2 * cell + 2);
+    let before = line(sheet, start, cell);
+    let after = line(sheet, start, cell + 1);
     OnAxis {
         cell: cell,
         offset: (position - before) as usize,
@@ -118,7 +116,7 @@ fn cell_along(sheet: &[u8], start: usize, lines: usize, position: u32) -> usize
     let mut high = lines - 1;
     while low + 1 < high {
         let middle = (low + high) / 2;
-        if word(sheet, start + 2 * middle) <= position {
+        if line(sheet, start, middle) <= position {
             low = middle;
         } else {
             high = middle;

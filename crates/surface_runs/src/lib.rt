@@ -11,8 +11,8 @@ ghost use Rattle.surface_runs.specs.Strips.{stripLevel, doneIn, AtColumn
 use element_evaluation::Pixel;
 use element_spans::fill_cell;
 use element_spans::least;
-use sheet_checking::line_x;
 use sheet_layout::columns;
+use sheet_layout::line_x;
 use surface_cells::corner_numbers;
 use surface_places::find;
 

@@ -2,6 +2,7 @@
 use mathlib.Core.Path.{refl, sym, _∙_}
 use borrow.Author.Needs.{needs}
 use Rattle.sheet_calls.proofs.Chains.{lookup-held}
+use Rattle.sheet_calls.proofs.WellFormed.{nodes-there}
 use Rattle.sheet_nodes.proofs.Answers.{looked-none, looked-found}
 use Rattle.light_sheet_c.proofs.lvs_node_offset.Statement.{statement}
 use Rattle.light_sheet_c.proofs.lvs_node_offset.Tie as tie
@@ -10,7 +11,7 @@ returns : tie.Need-returns
 returns c = rw (looked-none _ _ _ (c .before .node-refusal .ensures) (c .if1 .taken)) refl
 
 node-offset-requires : tie.Need-node-offset-requires
-node-offset-requires c κs = let h = lookup-held _ _ _ (sym (c .before .node-refusal .ensures) ∙ c .if1 .left) in (h .accepted, h .column, h .row)
+node-offset-requires c κs = let h = lookup-held _ _ _ (sym (c .before .node-refusal .ensures) ∙ c .if1 .left) in (nodes-there _ (h .accepted), h .column, h .row)
 
 returns-2 : tie.Need-returns-2
 returns-2 c = rw (looked-found _ _ _ (c .before .before .node-refusal .ensures) (c .before .if1 .left)) (c .node-offset .ensures .0)

@@ -5,6 +5,7 @@ use mathlib.Core.Path.{_≡_, refl, _∙_, subst}
 use native.Mathlib.Omega.{arith}
 use borrow.Author.Needs.{needs}
 use lib.ListN.{length}
+use Rattle.sheet_calls.proofs.WellFormed.{lines-there}
 use Rattle.program_listing.specs.Listing.{firstY, lastY}
 use Rattle.surface_of_sheet.proofs.Cells.{sound, last-y-near}
 use Rattle.program_levels.proofs.print_rows.Statement.{statement}
@@ -41,7 +42,7 @@ print-rows-spec =
     Inv-loop
     μ-loop
     (λ c κs. search needs)
-    (λ c κs. let a = c .before .before .before .pre .0 in (a, omega (arith, sound _ a .fewRows)))
+    (λ c κs. let a = c .before .before .before .pre .0 in (lines-there _ a, omega (arith, sound _ a .fewRows)))
     loop-holds
     print-row-requires
     (λ c. search needs)

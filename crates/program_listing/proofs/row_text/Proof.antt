@@ -5,6 +5,7 @@ use mathlib.Core.Path.{_∙_, subst}
 use native.Mathlib.Nat.{zero-add}
 use native.Mathlib.Omega.{arith}
 use borrow.Author.Needs.{needs}
+use Rattle.sheet_calls.proofs.WellFormed.{lines-there}
 use Rattle.surface_of_sheet.proofs.Cells.{sound, last-x-near}
 use Rattle.program_listing.specs.Listing.{lastX}
 use Rattle.program_listing.proofs.Begun.{Begun, on-row, starts, length-kept, line-room, goes-on, done}
@@ -53,7 +54,7 @@ row-text-spec =
     Inv-loop
     μ-loop
     (λ c κs. search needs)
-    (λ c κs. let a = c .before .before .before .pre .0 .accepted in (a, omega (arith, sound _ a .fewColumns)))
+    (λ c κs. let a = c .before .before .before .pre .0 .accepted in (lines-there _ a, omega (arith, sound _ a .fewColumns)))
     loop-holds
     pixel-line-requires
     add-x

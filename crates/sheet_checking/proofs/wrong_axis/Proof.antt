@@ -1,31 +1,35 @@
 -- `sheet_checking::wrong_axis` meets its contract. Assumes nothing.
 use denote.Ref.{now}
 use Prim.Native.Nat.{_-_, _≤_}
-use mathlib.Core.Path.{_≡_}
+use mathlib.Core.Path.{_≡_, refl, ap}
+use lib.Dec.{ltb}
 use borrow.Author.Needs.{needs}
+use Rattle.sheet_layout.specs.Format.{furthest, lineFrom}
 use Rattle.sheet_calls.specs.Refusals.{some, wrongLine}
 use Rattle.sheet_checking.proofs.Gathered.{gathered-all}
-use Rattle.sheet_checking.proofs.Lines.{line, first-line, next-line}
+use Rattle.sheet_checking.proofs.Lines.{next-line}
 use Rattle.sheet_checking.proofs.wrong_axis.Statement.{statement}
 use Rattle.sheet_checking.proofs.wrong_axis.Tie as tie
 
 abbrev Inv-loop : tie.InvT-loop
-Inv-loop sheet start lines wrong₀ k₀ wrong k = (1 ≤ k) × (k ≤ lines) × (wrong ≡ some (wrongLine (line sheet start)) k)
+Inv-loop sheet start lines wrong₀ k₀ wrong k = (1 ≤ k) × (k ≤ lines) × (wrong ≡ some (wrongLine (lineFrom sheet start)) k)
 
 abbrev μ-loop : tie.MeasureT-loop
 μ-loop sheet start lines wrong₀ k₀ wrong k = lines - k
 
 loop-holds : tie.Need-loop-holds Inv-loop μ-loop
-loop-holds c = (search needs, search needs, first-line (now (c .before .before .args .sheet)) (c .before .before .args .start) _ (c .word .ensures .0))
+unfolding some wrongLine
+loop-holds c = (search needs, search needs, ap (ltb furthest) (c .line .ensures .0))
 
 wrong-step-requires : tie.Need-wrong-step-requires Inv-loop μ-loop
-wrong-step-requires c κs = c .before .word2 .ensures .1
+wrong-step-requires c κs = c .before .line2 .ensures .1
 
 loop-again : tie.Need-loop-again Inv-loop μ-loop
 loop-again c =
-    let h = c .before .before .before .before .loop .inv in
-    let a = c .before .before .before .before .before .before .before .args in
-    (search needs, search needs, next-line (now (a .sheet)) (a .start) _ (h .0) _ _ _ _ (h .2) (c .before .before .word2 .ensures .0) (c .before .word3 .ensures .0) (c .wrong-step .ensures))
+    let l = c .before .before .before in
+    let h = l .before .loop .inv in
+    let a = l .before .before .before .before .args in
+    (search needs, search needs, next-line (lineFrom (now (a .sheet)) (a .start)) _ (h .0) _ _ _ _ (h .2) (c .before .before .line2 .ensures .0) (c .before .line3 .ensures .0) (c .wrong-step .ensures))
 
 returns : tie.Need-returns Inv-loop μ-loop
 returns c = gathered-all _ _ _ _ (c .before .loop .inv .1) (c .loop-test .left) (c .before .loop .inv .2)
@@ -38,8 +42,6 @@ wrong-axis-spec =
     μ-loop
     (λ c κs. search needs)
     loop-holds
-    (λ c. search needs)
-    (λ c. search needs)
     (λ c. search needs)
     (λ c κs. search needs)
     (λ c κs. search needs)

@@ -1,7 +1,9 @@
 -- `sheet_nodes::set_node` meets its contract. Assumes nothing.
 use mathlib.Core.Path.{sym, _∙_}
 use borrow.Author.Needs.{needs}
-use Rattle.sheet_nodes.proofs.Numbers.{back}
+use borrow.Author.Tests.{not-false}
+use Rattle.sheet_calls.specs.Refusals.{wrongNumbers}
+use Rattle.sheet_layout.proofs.Numbers.{back}
 use Rattle.sheet_nodes.proofs.Answers.{set-refused, set-wrong, set-done}
 use Rattle.sheet_nodes.proofs.set_node.Statement.{statement}
 use Rattle.sheet_nodes.proofs.set_node.Tie as tie
@@ -16,7 +18,8 @@ returns-2 c =
     set-wrong _ _ _ _ (d .before .node-refusal .ensures) (d .if1 .left) (back (s .fits .height) (s .fits .x-slope) (s .fits .y-slope)) (c .before .wrong-numbers .ensures) (c .if2 .taken)
 
 put-node-requires : tie.Need-put-node-requires
-put-node-requires c κs = let d = c .before .before .before in (c .before .offset .ensures .1, sym (d .before .wrong-numbers .ensures) ∙ d .if2 .left)
+unfolding wrongNumbers
+put-node-requires c κs = let d = c .before .before .before in (c .before .offset .ensures .1, not-false _ (sym (d .before .wrong-numbers .ensures) ∙ d .if2 .left))
 
 returns-3 : tie.Need-returns-3
 returns-3 c =

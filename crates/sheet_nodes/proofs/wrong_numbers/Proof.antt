@@ -1,6 +1,7 @@
 -- `sheet_nodes::wrong_numbers` meets its contract. Assumes nothing.
 use borrow.Author.Needs.{needs}
-use Rattle.sheet_nodes.proofs.Numbers.{back, wrong-is}
+use Rattle.sheet_layout.proofs.Numbers.{back}
+use Rattle.sheet_nodes.proofs.Numbers.{wrong-is}
 use Rattle.sheet_nodes.proofs.wrong_numbers.Statement.{statement}
 use Rattle.sheet_nodes.proofs.wrong_numbers.Tie as tie
 

@@ -6,9 +6,9 @@ use native.Mathlib.Omega.{arith}
 use borrow.Author.Needs.{needs}
 use mir.Syntax.{w64}
 use mir.Val.{Fits}
-use Rattle.sheet_calls.proofs.WellFormed.{accepted-laws}
-use Rattle.element_corners.specs.Held.{arrays}
-use Rattle.surface_of_sheet.specs.Surface.{nodesOf}
+use Rattle.sheet_calls.proofs.WellFormed.{accepted-laws, nodes-there}
+use Rattle.element_corners.specs.Held.{arrays, three}
+use Rattle.surface_of_sheet.specs.Surface.{nodeNumbers, nodesOf}
 use Rattle.surface_cells.proofs.corner_nodes.Statement.{statement}
 use Rattle.surface_cells.proofs.corner_nodes.Tie as tie
 
@@ -23,7 +23,7 @@ row-fits : (s : tie.Start) → Fits w64 (s .args .row + 1)
 row-fits s = next-fits (s .pre .1 .row) (accepted-laws .sound _ (s .pre .0) .manyRows)
 
 returns : tie.Need-returns
-unfolding arrays nodesOf
+unfolding arrays three nodesOf nodeNumbers
 returns c =
     let third = c .before in
     let second = third .before in
@@ -36,12 +36,12 @@ pub corner-nodes-spec : {M : Type 1} → statement M
 corner-nodes-spec =
     tie.close
     (tie.spec
-    (λ c κs. search needs)
+    (λ c κs. let there = nodes-there _ (c .before .pre .0) in search needs)
     (λ c. column-fits (c .before .before))
-    (λ c κs. search needs)
+    (λ c κs. let there = nodes-there _ (c .before .before .pre .0) in search needs)
     (λ c. row-fits (c .before .before .before))
-    (λ c κs. search needs)
+    (λ c κs. let there = nodes-there _ (c .before .before .before .pre .0) in search needs)
     (λ c. column-fits (c .before .before .before .before))
     (λ c. row-fits (c .before .before .before .before))
-    (λ c κs. search needs)
+    (λ c κs. let there = nodes-there _ (c .before .before .before .before .pre .0) in search needs)
     returns)

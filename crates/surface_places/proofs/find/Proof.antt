@@ -1,27 +1,32 @@
 -- `surface_places::find` meets its contract. Assumes nothing.
-use borrow.Author.Needs.{needs}
 use Rattle.sheet_calls.proofs.WellFormed.{header-there}
 use Rattle.surface_places.proofs.Axes.{place-is, x-axis, y-axis, x-between, y-between, pixel-inside}
 use Rattle.surface_places.proofs.find.Statement.{statement}
 use Rattle.surface_places.proofs.find.Tie as tie
 
 on-axis-requires : tie.Need-on-axis-requires
-on-axis-requires c κs =
-    let p = c .before .before .before .pre in rw (c .before .columns .ensures .0) (x-axis _ (p .0), x-between _ (p .0) _ _ (p .1))
+on-axis-requires c κs = let p = c .before .before .pre in rw (c .columns .ensures .0) (x-axis _ (p .0), x-between _ (p .0) _ _ (p .1))
 
 on-axis-requires-2 : tie.Need-on-axis-requires-2
 on-axis-requires-2 c κs =
-    let p = c .before .before .before .before .pre in
-    rw (c .before .rows .ensures .0, c .before .before .columns .ensures .0) (y-axis _ (p .0), y-between _ (p .0) _ _ (p .1))
+    let p = c .before .before .before .before .before .pre in
+    rw (c .rows .ensures .0, c .before .y-lines-offset .ensures .0) (y-axis _ (p .0), y-between _ (p .0) _ _ (p .1))
 
 piece-requires : tie.Need-piece-requires
 piece-requires c κs =
-    let p = c .before .before .before .before .before .pre in
-    rw (c .before .on-axis .ensures, c .on-axis2 .ensures, c .before .before .before .columns .ensures .0, c .before .before .rows .ensures .0) (pixel-inside _ (p .0) _ _ (p .1))
+    let r = c .before in
+    let y = r .before in
+    let x = y .before in
+    let p = x .before .before .before .pre in
+    rw (c .on-axis2 .ensures, r .rows .ensures .0, y .y-lines-offset .ensures .0, x .on-axis .ensures, x .before .columns .ensures .0) (pixel-inside _ (p .0) _ _ (p .1))
 
 returns : tie.Need-returns
 returns c =
-    rw (c .piece .ensures, c .before .before .on-axis .ensures, c .before .on-axis2 .ensures, c .before .before .before .before .columns .ensures .0, c .before .before .before .rows .ensures .0)
+    let d = c .before in
+    let r = d .before in
+    let y = r .before in
+    let x = y .before in
+    rw (c .piece .ensures, d .on-axis2 .ensures, r .rows .ensures .0, y .y-lines-offset .ensures .0, x .on-axis .ensures, x .before .columns .ensures .0)
     (place-is _ _ _)
 
 pub find-spec : {M : Type 1} → statement M
@@ -29,10 +34,9 @@ find-spec =
     tie.close
     (tie.spec
     (λ c κs. header-there _ (c .before .pre .0))
-    (λ c κs. header-there _ (c .before .before .pre .0))
-    (λ c. search needs)
-    (λ c. search needs)
     on-axis-requires
+    (λ c κs. header-there _ (c .before .before .before .pre .0))
+    (λ c κs. header-there _ (c .before .before .before .before .pre .0))
     on-axis-requires-2
     piece-requires
     returns)

@@ -1,28 +1,29 @@
 -- `surface_places::outside` meets its contract. Assumes nothing.
-use borrow.Author.Needs.{needs}
 use Rattle.sheet_calls.proofs.WellFormed.{header-there}
 use Rattle.surface_places.proofs.Axes.{off-either, x-axis, y-axis}
 use Rattle.surface_places.proofs.outside.Statement.{statement}
 use Rattle.surface_places.proofs.outside.Tie as tie
 
 off-axis-requires : tie.Need-off-axis-requires
-off-axis-requires c κs = rw (c .before .columns .ensures .0) (x-axis _ (c .before .before .before .pre))
+off-axis-requires c κs = rw (c .columns .ensures .0) (x-axis _ (c .before .before .pre))
 
 off-axis-requires-2 : tie.Need-off-axis-requires-2
-off-axis-requires-2 c κs = rw (c .before .rows .ensures .0, c .before .before .columns .ensures .0) (y-axis _ (c .before .before .before .before .pre))
+off-axis-requires-2 c κs = rw (c .rows .ensures .0, c .before .y-lines-offset .ensures .0) (y-axis _ (c .before .before .before .before .before .pre))
 
 returns : tie.Need-returns
 returns c =
-    rw (c .before .off-axis .ensures, c .off-axis2 .ensures, c .before .before .before .columns .ensures .0, c .before .before .rows .ensures .0) (off-either _ _ _)
+    let r = c .before in
+    let y = r .before in
+    let x = y .before in
+    rw (c .off-axis2 .ensures, r .rows .ensures .0, y .y-lines-offset .ensures .0, x .off-axis .ensures, x .before .columns .ensures .0) (off-either _ _ _)
 
 pub outside-spec : {M : Type 1} → statement M
 outside-spec =
     tie.close
     (tie.spec
     (λ c κs. header-there _ (c .before .pre))
-    (λ c κs. header-there _ (c .before .before .pre))
-    (λ c. search needs)
-    (λ c. search needs)
     off-axis-requires
+    (λ c κs. header-there _ (c .before .before .before .pre))
+    (λ c κs. header-there _ (c .before .before .before .before .pre))
     off-axis-requires-2
     returns)

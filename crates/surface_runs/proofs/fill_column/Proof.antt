@@ -14,6 +14,7 @@ use Rattle.element_corners.specs.Held.{corners, arrays, cell}
 use Rattle.element_corners.proofs.Arrays.{held}
 use Rattle.element_evaluation.specs.declared.Pixel.{Pixel}
 use Rattle.sheet_layout.specs.Format.{lineX}
+use Rattle.sheet_calls.proofs.WellFormed.{lines-there}
 use Rattle.surface_of_sheet.specs.Place.{HasCell}
 use Rattle.surface_of_sheet.proofs.Cells.{sound, x-rising}
 use Rattle.element_spans.specs.Needs.{FitsCell}
@@ -59,10 +60,10 @@ module _ (c : tie.After-line-x2) where
   width = λ j. right j - c .before .line-x .ensures j
 
 line-x-requires : tie.Need-line-x-requires
-line-x-requires c κs = let h = has (c .before) .column in (on (c .before) .accepted, omega arith)
+line-x-requires c κs = let h = has (c .before) .column in (lines-there _ (on (c .before) .accepted), omega arith)
 
 line-x-requires-2 : tie.Need-line-x-requires-2
-line-x-requires-2 c κs = let h = has (c .before .before) .column in (on (c .before .before) .accepted, omega arith)
+line-x-requires-2 c κs = let h = has (c .before .before) .column in (lines-there _ (on (c .before .before) .accepted), omega arith)
 
 sub-width : tie.Need-sub-width
 sub-width c = let s = c .before .before .before in

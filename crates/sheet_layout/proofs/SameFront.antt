@@ -1,12 +1,10 @@
 -- Two sheets, s and t, with the same bytes before the nodes: they have the same lines, and a node whose bytes are the same. Assumes nothing.
-use Prim.Native.Nat.{ℕ, suc, _+_, _*_, _<_}
+use Prim.Native.Nat.{ℕ, _+_, _*_, _<_}
 use mathlib.Core.Path.{_≡_, refl, sym, _∙_}
 use mathlib.Core.List.{List}
 use native.Mathlib.Omega.{arith}
-use lib.ListN.{length}
 use Rattle.sheet_words.specs.Word.{byteAt, wordAt}
 use Rattle.sheet_layout.specs.Format.{columns, rows, xLinesOffset, yLinesOffset, lineX, lineY, nodesOffset, decoded, nodeSize, nodeOffset, nodeAt}
-use Rattle.sheet_calls.specs.WellFormed.{Rising, InRange, WellFormed}
 use Rattle.sheet_words.proofs.Replaced.{stretch-byte}
 
 same-word : (a b : List ℕ) (n : ℕ) → ((k : ℕ) → k < n → byteAt a k ≡ byteAt b k) → (k : ℕ) → k + 1 < n → wordAt a k ≡ wordAt b k
@@ -15,14 +13,6 @@ same-word a b n same k h = rw (same k (omega arith), same (k + 1) h) refl
 same-decoded : (a b : List ℕ) → ((k : ℕ) → k < nodeSize → byteAt a k ≡ byteAt b k) → decoded a ≡ decoded b
 unfolding decoded
 same-decoded a b same = let word = same-word a b nodeSize same in rw (word 0 (omega arith), word 2 (omega arith), word 4 (omega arith)) refl
-
-same-rising : (line line′ : ℕ → ℕ) (n : ℕ) → ((k : ℕ) → k < n → line′ k ≡ line k) → Rising line n → Rising line′ n
-same-rising line line′ n same r =
-    record {
-      near = λ k h. rw (same k h) (r .near k h);
-      rises = λ k h. rw (same k (omega arith), same (suc k) h) (r .rises k h);
-      narrow = λ k h. rw (same k (omega arith), same (suc k) h) (r .narrow k h);
-    }
 
 pub record SameFront (s t : List ℕ) : Type 0 where
   pub bytes : (k : ℕ) → k < nodesOffset s → byteAt t k ≡ byteAt s k
@@ -34,7 +24,7 @@ module _ {s t : List ℕ} (same : SameFront s t) where
   pub same-rows : rows t ≡ rows s
   same-rows = same .bytes 6 (omega arith)
 
-  front-word : (k : ℕ) → k + 1 < nodesOffset s → wordAt t k ≡ wordAt s k
+  pub front-word : (k : ℕ) → k + 1 < nodesOffset s → wordAt t k ≡ wordAt s k
   front-word = same-word t s (nodesOffset s) (same .bytes)
 
   pub same-lineX : (k : ℕ) → k < columns s → lineX t k ≡ lineX s k
@@ -49,21 +39,3 @@ module _ {s t : List ℕ} (same : SameFront s t) where
   pub same-node : (i j : ℕ) → ((k : ℕ) → k < nodeSize → byteAt t (nodeOffset s i j + k) ≡ byteAt s (nodeOffset s i j + k)) → nodeAt t i j ≡ nodeAt s i j
   unfolding nodeAt
   same-node i j bytes = rw (same-offset i j) (same-decoded _ _ (λ k h. stretch-byte t _ nodeSize k h ∙ bytes k h ∙ sym (stretch-byte s _ nodeSize k h)))
-
-  pub same-well-formed : WellFormed s → length t ≡ length s → ((i j : ℕ) → i < columns s → j < rows s → InRange (nodeAt t i j)) → WellFormed t
-  same-well-formed w l n =
-      record {
-        markL = same .bytes 0 (omega arith) ∙ w .markL;
-        markV = same .bytes 1 (omega arith) ∙ w .markV;
-        markS = same .bytes 2 (omega arith) ∙ w .markS;
-        versionOne = front-word 3 (omega arith) ∙ w .versionOne;
-        fewColumns = rw same-columns (w .fewColumns);
-        manyColumns = rw same-columns (w .manyColumns);
-        fewRows = rw same-rows (w .fewRows);
-        manyRows = rw same-rows (w .manyRows);
-        blank = same .bytes 7 (omega arith) ∙ w .blank;
-        whole = rw (same-columns, same-rows) (l ∙ w .whole);
-        risingX = rw same-columns (same-rising (lineX s) (lineX t) (columns s) same-lineX (w .risingX));
-        risingY = rw same-rows (same-rising (lineY s) (lineY t) (rows s) same-lineY (w .risingY));
-        ranges = rw (same-columns, same-rows) n;
-      }

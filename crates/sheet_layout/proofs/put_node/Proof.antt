@@ -1,10 +1,10 @@
--- `sheet_nodes::put_node` meets its contract. Assumes nothing.
+-- `sheet_layout::put_node` meets its contract. Assumes nothing.
 use borrow.Author.Needs.{needs}
 use mir.Syntax.{w32}
 use Rattle.integers.proofs.Operand.{known, read-within}
-use Rattle.sheet_nodes.proofs.Numbers.{fit, back, three-words}
-use Rattle.sheet_nodes.proofs.put_node.Statement.{statement}
-use Rattle.sheet_nodes.proofs.put_node.Tie as tie
+use Rattle.sheet_layout.proofs.Numbers.{fit, back, three-words}
+use Rattle.sheet_layout.proofs.put_node.Statement.{statement}
+use Rattle.sheet_layout.proofs.put_node.Tie as tie
 
 bits-of-requires : tie.Need-bits-of-requires
 bits-of-requires c κs = read-within (known w32 (fit _ _ _ (c .before .before .pre .1) .0) tt)

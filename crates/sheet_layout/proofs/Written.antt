@@ -1,20 +1,17 @@
 -- A sheet in which the bytes of one node have been written anew. Assumes nothing.
 use Prim.Native.Nat.{ℕ, _+_, _≤_, _<_}
 use mathlib.Core.Path.{_≡_, sym, _∙_, ap}
-use mathlib.Core.Logic.{⊎-elim, Dec·and}
+use mathlib.Core.Logic.{⊎-elim}
 use mathlib.Core.List.{List}
 use mathlib.Core.Bool.{true}
-use native.Mathlib.Decide.{ℕ-discrete}
 use native.Mathlib.Omega.{arith}
 use lib.ListN.{length, take, drop}
 use Rattle.sheet_words.specs.Word.{byteAt, replaced, Bytes}
-use Rattle.sheet_layout.specs.Format.{columns, rows, Node, encoded, decoded, nodeIn, nodeSize, nodeOffset, nodeBytes, nodeAt}
-use Rattle.sheet_calls.specs.WellFormed.{InRange, WellFormed}
+use Rattle.sheet_layout.specs.Format.{columns, Node, encoded, decoded, nodeIn, nodeSize, nodeOffset, nodeBytes, nodeAt}
 use Rattle.sheet_words.proofs.Replaced.{stretch-length, stretch-bytes, replaced-same, replaced-length, replaced-stretch, replaced-before, replaced-after, replaced-again}
-use Rattle.sheet_calls.proofs.Encoding.{encoding-laws}
-use Rattle.sheet_calls.proofs.Ranges.{node-in}
-use Rattle.sheet_calls.proofs.Offsets.{node-fits, nodes-apart}
-use Rattle.sheet_calls.proofs.SameFront.{SameFront, same-offset, same-node, same-well-formed}
+use Rattle.sheet_layout.proofs.Encoding.{encoding-laws}
+use Rattle.sheet_layout.proofs.Offsets.{nodes-apart}
+use Rattle.sheet_layout.proofs.SameFront.{SameFront, same-offset, same-node}
 
 abbrev pub written : List ℕ → ℕ → ℕ → Node → List ℕ
 written s i j v = replaced s (nodeOffset s i j) (encoded v)
@@ -33,7 +30,7 @@ module _ (s : List ℕ) (i j : ℕ) (v : Node) (fits : nodeOffset s i j + nodeSi
   written-after k h = replaced-after s _ (encoded v) fits-encoded k (rw (encoding-laws .encodedSize v) h)
 
   -- all that comes before the nodes stays
-  written-front : SameFront s (written s i j v)
+  pub written-front : SameFront s (written s i j v)
   written-front = record { bytes = λ k h. written-before k (omega arith) }
 
   pub written-bytes : nodeBytes (written s i j v) i j ≡ encoded v
@@ -62,16 +59,3 @@ unfolding nodeAt
 written-same s i j fits bytes =
     let o = nodeOffset s i j in
     ap (replaced s o) (encoding-laws .encodedDecoded _ (stretch-bytes s o nodeSize bytes) (stretch-length s o nodeSize fits)) ∙ replaced-same s o nodeSize fits
-
-pub written-well-formed : {s : List ℕ} (i j : ℕ) (v : Node) → WellFormed s → i < columns s → j < rows s → nodeIn v ≡ true → WellFormed (written s i j v)
-written-well-formed {s} i j v w h k n = same-well-formed (written-front s i j v fits) w (written-length s i j v fits) each
-  where
-    fits : nodeOffset s i j + nodeSize ≤ length s
-    fits = node-fits w i j h k
-
-    each : (i′ j′ : ℕ) → i′ < columns s → j′ < rows s → InRange (nodeAt (written s i j v) i′ j′)
-    each i′ j′ h′ k′ =
-        elim (Dec·and (ℕ-discrete i′ i) (ℕ-discrete j′ j)) [
-          | yes e ↦ rw (e .0, e .1, written-node s i j v fits n) (node-in v .0 n)
-          | no other ↦ rw (written-others s i j v fits i′ j′ h h′ other) (w .ranges i′ j′ h′ k′)
-        ]

@@ -7,17 +7,16 @@ use native.Mathlib.Nat.{mul-le-mul, mul-comm, suc-mul, le-refl}
 use native.Mathlib.Decide.{decLt}
 use native.Mathlib.Omega.{arith}
 use lib.ListN.{length}
-use Rattle.sheet_layout.specs.Format.{columns, rows, nodeSize, nodeOffset}
-use Rattle.sheet_calls.specs.WellFormed.{WellFormed}
+use Rattle.sheet_layout.specs.Format.{columns, rows, nodeSize, nodeOffset, sizeOf}
 
 -- a later row starts behind all of an earlier one
 rows-apart : (m i j j′ : ℕ) → i < m → j < j′ → j * m + i < j′ * m
 rows-apart m i j j′ h k = omega (arith, suc-mul j m, mul-le-mul k (le-refl m))
 
-pub node-fits : {s : List ℕ} → WellFormed s → (i j : ℕ) → i < columns s → j < rows s → nodeOffset s i j + nodeSize ≤ length s
-node-fits {s} w i j h k = omega (arith, w .whole, rows-apart (columns s) i j (rows s) h k, mul-comm (rows s) (columns s))
+pub node-fits : (s : List ℕ) → sizeOf (columns s) (rows s) ≤ length s → (i j : ℕ) → i < columns s → j < rows s → nodeOffset s i j + nodeSize ≤ length s
+node-fits s whole i j h k = omega (arith, whole, rows-apart (columns s) i j (rows s) h k, mul-comm (rows s) (columns s))
 
--- a node's place in the order of the rows tells its row and its column
+-- a node's index in the order of the rows tells its row and its column
 module _ (m i j i′ j′ : ℕ) (h : i < m) (h′ : i′ < m) (same : j * m + i ≡ j′ * m + i′) where
   same-row : j′ ≡ j
   same-row =

@@ -12,9 +12,9 @@ use Rattle.integers.proofs.Bounds.{within-mono, within-upper, within-lower}
 use Rattle.sheet_words.specs.Word.{wordAt, signed, bitsOf, bytesOf, Bytes}
 use Rattle.sheet_words.proofs.Signs.{signed-bits, bits-signed, bits-small}
 use Rattle.sheet_words.proofs.Bytes.{word-bytes, bytes-word, bytes-of, bytes-append}
 use Rattle.sheet_layout.specs.Format.{Node, decoded, encoded, nodeIn, nodeSize}
-use Rattle.sheet_calls.specs.NodeLaws.{EncodingLaws}
-use Rattle.sheet_calls.proofs.Ranges.{node-in}
+use Rattle.sheet_layout.specs.EncodingLaws.{EncodingLaws}
+use Rattle.sheet_layout.proofs.Ranges.{node-in}
 
 -- ---- a number and its two bytes
 
@@ -35,7 +35,7 @@ decoded-encoded : (v : Node) → nodeIn v ≡ true → decoded (encoded v) ≡ v
 unfolding decoded encoded bytesOf
 decoded-encoded v e =
     let r = node-in v .0 e in
-    rw (number-back _ (r .storedHeight) (omega arith), number-back _ (r .slopeX) (omega arith), number-back _ (r .slopeY) (omega arith)) refl
+    rw (number-back _ (r .0 .0) (omega arith), number-back _ (r .0 .1) (omega arith), number-back _ (r .1) (omega arith)) refl
 
 encoded-decoded : (b : List ℕ) → Bytes b → length b ≡ nodeSize → encoded (decoded b) ≡ b
 unfolding decoded encoded
@@ -49,7 +49,7 @@ pub encoded-bytes : (v : Node) → nodeIn v ≡ true → Bytes (encoded v)
 unfolding encoded
 encoded-bytes v e =
     let r = node-in v .0 e in
-    bytes-append _ _ (bytes-append _ _ (number-bytes _ (r .storedHeight)) (number-bytes _ (r .slopeX))) (number-bytes _ (r .slopeY))
+    bytes-append _ _ (bytes-append _ _ (number-bytes _ (r .0 .0)) (number-bytes _ (r .0 .1))) (number-bytes _ (r .1))
 
 pub encoding-laws : EncodingLaws
 encoding-laws = record { encodedSize = encoded-size; decodedEncoded = decoded-encoded; encodedDecoded = encoded-decoded }

@@ -6,8 +6,6 @@ use mathlib.Core.Bool.{Bool, true, false, not, _&&_, _||_, and-eq-true-iff}
 use mathlib.Mathlib.Data.Bool.Basic.{or-eq-false-eq-eq-false-and-eq-false}
 use lib.Dec.{ltb, leb, eqb}
 use borrow.Author.Tests.{ltb-false, leb-true, leb-false, eqb-true, le-ltb, le-leb, lt-leb, eq-eqb, not-false}
-use Rattle.sheet_calls.specs.Refusals.{some}
-use Rattle.sheet_calls.proofs.Some.{some-false, some-false-at}
 
 -- ---- where it fails
 
@@ -25,9 +23,6 @@ or-fails {a} {b} h k = (
   λ e. let (f, g) = or-eq-false-eq-eq-false-and-eq-false a b .0 e in (h .0 f, k .0 g),
   λ x. rw (h .1 (x .0)) (k .1 (x .1)),
 )
-
-pub some-fails : {p : ℕ → Bool} {P : ℕ → Type 0} (n : ℕ) → ((k : ℕ) → (p k ≡ false) ↔ P k) → (some p n ≡ false) ↔ ((k : ℕ) → k < n → P k)
-some-fails {p} n h = (λ e k l. h k .0 (some-false-at p n e k l), λ f. some-false p n (λ k l. h k .1 (f k l)))
 
 -- ---- where it holds
 
