@@ -1,14 +1,16 @@
 -- Demand 1, from the laws of setting, of runs and of refusals. Assumes nothing.
 use Prim.Native.Nat.{ℕ}
-use mathlib.Core.Path.{_≡_, refl, sym, _∙_, ap, subst}
+use mathlib.Core.Path.{_≡_, sym, _∙_, ap, subst}
 use mathlib.Core.List.{List}
 use native.Mathlib.Nat.{le-trans}
 use native.Mathlib.Omega.{arith}
+use lib.Dec.{T}
 use lib.ListN.{length}
-use Rattle.sheet_calls.specs.Refusals.{Input, table, first, part, checkRefusal, lookupRefusal, settingRefusal, readingRefusal, runRefusal}
+use Rattle.sheet_calls.specs.Rules.{Rule, firstRefusal}
+use Rattle.sheet_calls.specs.Refusals.{sheetRules, checkRules, checkRefusal, lookupRules, lookupRefusal, settingRules, settingRefusal, readingRules, readingRefusal, runRules, runRefusal}
 use Rattle.sheet_calls.specs.Calls.{Part}
 use Rattle.sheet_calls.proofs.Conditions.{condition-laws}
-use Rattle.sheet_calls.proofs.FirstHolds.{refusal-laws}
+use Rattle.sheet_calls.proofs.Rules.{rule-laws, positive, numbered}
 use Rattle.sheet_calls.proofs.Lookup.{lookup-laws}
 use Rattle.sheet_calls.proofs.Setting.{setting-laws}
 use Rattle.surface_of_sheet.proofs.Runs.{run-laws}
@@ -16,15 +18,15 @@ use Rattle.light_sheet_c.proofs.Stored.{over-size, over-behind}
 use Rattle.light_sheet_demands.specs.Demands.{Gives, DemandOne}
 use Rattle.light_sheet_demands.proofs.Readings.{number-is, no-values, few-values, none-stored}
 
--- what the checks give, whatever they are
-gives : (checks : List ℕ) (u : Input) {n : ℕ} → n ≡ first (part checks table) u → Gives checks u n
-gives checks u e = rw e (record {
-  refused = λ k h. (refusal-laws .only (part checks table) u k h, refusal-laws .given (part checks table) u k);
-  taken = (refusal-laws .zeroOnly checks u, refusal-laws .zero (part checks table) u);
+-- what rules give, whatever they are, where none has the number 0
+gives : {Input : Type 0} (rules : List (Rule Input)) (u : Input) → T (positive rules) → {n : ℕ} → n ≡ firstRefusal rules u → Gives rules u n
+gives rules u h e = rw e (record {
+  refused = λ k z. (rule-laws .thenOnly rules u k z, rule-laws .given rules u k);
+  taken = (rule-laws .zeroOnly rules u (numbered rules h), rule-laws .zero rules u);
 })
 
 pub demand-one : DemandOne
-unfolding table checkRefusal lookupRefusal settingRefusal readingRefusal runRefusal
+unfolding positive sheetRules checkRules checkRefusal lookupRules lookupRefusal settingRules settingRefusal readingRules readingRefusal runRules runRefusal
 demand-one = record {
   sheetSize = λ c. rw (c .sheet) (setting-laws .leaves _ _ _ _ .size);
   beforeNode = λ c. rw (c .sheet) (setting-laws .leaves _ _ _ _ .before);
@@ -35,12 +37,12 @@ demand-one = record {
   arraySize = λ c. ap length (c .values) ∙ over-size _ _;
   arrayBehind = λ c k l v. rw (c .values) (over-behind _ _ k (le-trans (few-values (c .isRead)) l) v);
   arrayRefused = λ c h. c .values ∙ none-stored (c .isRead) (λ e. h (c .answer ∙ e));
-  check = λ c. gives _ _ (c .answer);
-  lookup = λ c. gives _ _ (c .answer);
-  setting = λ c. gives _ _ (c .answer);
-  reading = λ c. gives _ _ (number-is c);
-  arrayReading = λ c. gives _ _ (c .answer ∙ number-is (c .isRead));
-  run = λ c. gives _ _ (c .answer);
+  check = λ c. gives _ _ tt (c .answer);
+  lookup = λ c. gives _ _ tt (c .answer);
+  setting = λ c. gives _ _ tt (c .answer);
+  reading = λ c. gives _ _ tt (number-is c);
+  arrayReading = λ c. gives _ _ tt (c .answer ∙ number-is (c .isRead));
+  run = λ c. gives _ _ tt (c .answer);
   emptyPart = λ c d h. subst (Part _ _) (lookup-laws .refused _ _ _ (λ e. h (d .answer ∙ e))) (c .part);
   nodePart = λ c d e. subst (Part _ _) (lookup-laws .found _ _ _ (sym (d .answer) ∙ e)) (c .part);
   offset = λ c d e. c .answer ∙ ap (λ p. p .start) (lookup-laws .found _ _ _ (sym (d .answer) ∙ e));
@@ -49,7 +51,5 @@ demand-one = record {
     λ h. c .answer ∙ ap (λ p. p .start) (lookup-laws .refused _ _ _ (λ e. h (d .answer ∙ e))),
   );
   noValues = no-values;
-  order = refusal-laws .order;
-  listed = λ u. refl;
   conditions = condition-laws;
 }

@@ -3,7 +3,7 @@
 use Prim.Native.Nat.{ℕ, suc, _+_, _≤_, _<_}
 use mathlib.Core.Path.{_≡_}
 use mathlib.Core.Logic.{_↔_}
-use mathlib.Core.List.{List, [], _∷_, map}
+use mathlib.Core.List.{List, [], _∷_, _++_}
 use denote.Ref.{RefT, now}
 use lib.IntN.{ℤ, pos, _+ℤ_, _*ℤ_}
 use lib.ListN.{length, getD, take}
@@ -19,8 +19,8 @@ use Rattle.element_nistir_6718.specs.Source as nistir
 use Rattle.element_readings.specs.Reading.{rounded, _withinℚ_}
 use Rattle.sheet_words.specs.Word.{byteAt}
 use Rattle.sheet_layout.specs.Format.{lineX, lineY, Node, decoded, nodeSize, nodeOffset, grainsPerStep}
-use Rattle.sheet_calls.specs.Refusals.{otherMark, otherVersion, otherCounts, otherLength, wrongLines, wrongNodes, offMesh, emptyRun, otherKind, noNode, wrongNumbers, Input, table, part, zeroNode, atPixel, atNode, ofSheet, checkRefusal, lookupRefusal, settingRefusal, runRefusal, Accepted}
-use Rattle.sheet_calls.specs.RefusalLaws.{Fails, Each, FirstToHold}
+use Rattle.sheet_calls.specs.Rules.{Rule, rule, Each, Fails, FirstToHold}
+use Rattle.sheet_calls.specs.Refusals.{otherMark, otherVersion, otherCounts, otherLength, wrongLines, wrongNodes, outside, offMesh, emptyRun, otherKind, noNode, wrongNumbers, Accepted, checkRefusal, LookupInput, lookupRefusal, SettingInput, settingRefusal, ReadingInput, RunInput, runRefusal}
 use Rattle.sheet_calls.specs.WellFormed.{Inside, ConditionLaws}
 use Rattle.sheet_calls.specs.Calls.{Part, span, lookedUp, withNode}
 use Rattle.sheet_calls.specs.NodeLaws.{ReadsBack}
@@ -78,11 +78,32 @@ pub record ReadInto (s : List ℕ) (x y kind : ℕ) (array : List Float) (n : �
 
 -- ---- demand 1
 
--- n is the number that a call gives which makes these checks of the table on its input u: a refusal's exactly when its condition is the first of them in order
--- to hold, 0 exactly when none holds
-pub record Gives (checks : List ℕ) (u : Input) (n : ℕ) : Type 0 where
-  pub refused : (k : ℕ) → ¬ (k ≡ 0) → (n ≡ k) ↔ FirstToHold (part checks table) u k
-  pub taken : (n ≡ 0) ↔ Each (Fails u) (part checks table)
+-- n is the number that a call gives which looks at these rules on its input u: a refusal's exactly when its condition is the first of them in order to hold, 0
+-- exactly when none holds
+pub record Gives {Input : Type 0} (rules : List (Rule Input)) (u : Input) (n : ℕ) : Type 0 where
+  pub refused : (k : ℕ) → ¬ (k ≡ 0) → (n ≡ k) ↔ FirstToHold rules u k
+  pub taken : (n ≡ 0) ↔ Each (Fails u) rules
+
+-- 01's conditions that each call looks at, by their numbers, in the order of looking: those of the sheet in its input, then its own
+abbrev pub ofSheet : {Input : Type 0} → (Input → List ℕ) → List (Rule Input)
+ofSheet sheet =
+    rule 1 (λ u. otherMark (sheet u)) ∷ rule 2 (λ u. otherVersion (sheet u)) ∷ rule 3 (λ u. otherCounts (sheet u)) ∷
+    rule 4 (λ u. otherLength (sheet u)) ∷ rule 5 (λ u. wrongLines (sheet u)) ∷ rule 6 (λ u. wrongNodes (sheet u)) ∷ []
+
+abbrev pub ofCheck : List (Rule (List ℕ))
+ofCheck = ofSheet (λ s. s)
+
+abbrev pub ofLookup : List (Rule LookupInput)
+ofLookup = ofSheet (λ u. u .sheet) ++ rule 10 (λ u. noNode (u .sheet) (u .column) (u .row)) ∷ []
+
+abbrev pub ofSetting : List (Rule SettingInput)
+ofSetting = ofSheet (λ u. u .sheet) ++ rule 10 (λ u. noNode (u .sheet) (u .column) (u .row)) ∷ rule 11 (λ u. wrongNumbers (u .numbers)) ∷ []
+
+abbrev pub ofReading : List (Rule ReadingInput)
+ofReading = ofSheet (λ u. u .sheet) ++ rule 7 (λ u. outside (u .sheet) (u .x) (u .y)) ∷ rule 9 (λ u. otherKind (u .kind)) ∷ []
+
+abbrev pub ofRun : List (Rule RunInput)
+ofRun = ofSheet (λ u. u .sheet) ++ rule 7 (λ u. offMesh (u .sheet) (u .x) (u .y) (u .count)) ∷ rule 8 (λ u. emptyRun (u .count)) ∷ []
 
 pub record DemandOne : Type 0 where
   -- "The memory a caller lends, sheet or row, comes back with only those places altered that the call is there to write, and after a refusal with none
@@ -102,15 +123,15 @@ pub record DemandOne : Type 0 where
   -- every function the gate shows that it reads and writes within bounds, that no operation loses a bit, and that it ends
 
   -- "Each refusal is given when its listed condition is the first in order to hold, and then only."
-  pub check : {s : List ℕ} {n : ℕ} → Check s n → Gives (1 ∷ 2 ∷ 3 ∷ 4 ∷ 5 ∷ 6 ∷ []) (ofSheet s) n
-  pub lookup : {s : List ℕ} {i j n : ℕ} → NodeRefusal s i j n → Gives (1 ∷ 2 ∷ 3 ∷ 4 ∷ 5 ∷ 6 ∷ 10 ∷ []) (atNode s i j zeroNode) n
-  pub setting : {s t : List ℕ} {i j n : ℕ} {v : Node} → SetNode s i j v n t → Gives (1 ∷ 2 ∷ 3 ∷ 4 ∷ 5 ∷ 6 ∷ 10 ∷ 11 ∷ []) (atNode s i j v) n
+  pub check : {s : List ℕ} {n : ℕ} → Check s n → Gives ofCheck s n
+  pub lookup : {s : List ℕ} {i j n : ℕ} → NodeRefusal s i j n → Gives ofLookup (record { sheet = s; column = i; row = j }) n
+  pub setting : {s t : List ℕ} {i j n : ℕ} {v : Node} → SetNode s i j v n t → Gives ofSetting (record { sheet = s; column = i; row = j; numbers = v }) n
   pub reading : {s : List ℕ} {x y kind : ℕ} {r : Answer} → Read s x y kind r →
-      Gives (1 ∷ 2 ∷ 3 ∷ 4 ∷ 5 ∷ 6 ∷ 7 ∷ 9 ∷ []) (atPixel s x y 0 kind) (outcome r .number)
+      Gives ofReading (record { sheet = s; x = x; y = y; kind = kind }) (outcome r .number)
   pub arrayReading : {s : List ℕ} {x y kind n : ℕ} {array array′ : List Float} → ReadInto s x y kind array n array′ →
-      Gives (1 ∷ 2 ∷ 3 ∷ 4 ∷ 5 ∷ 6 ∷ 7 ∷ 9 ∷ []) (atPixel s x y 0 kind) n
+      Gives ofReading (record { sheet = s; x = x; y = y; kind = kind }) n
   pub run : {s : List ℕ} {x y n : ℕ} {row row′ : List ℤ} → FillRun s x y row n row′ →
-      Gives (1 ∷ 2 ∷ 3 ∷ 4 ∷ 5 ∷ 6 ∷ 7 ∷ 8 ∷ []) (atPixel s x y (length row) 0) n
+      Gives ofRun (record { sheet = s; x = x; y = y; count = length row }) n
   -- a lookup that its companion says is refused hands back an empty part from the sheet's start; else the node's six bytes, where they lie
   pub emptyPart : {s r : RefT (List ℕ)} {i j n : ℕ} → NodeCall s i j r → NodeRefusal (now s) i j n → ¬ (n ≡ 0) → Part s r (span 0 0)
   pub nodePart : {s r : RefT (List ℕ)} {i j n : ℕ} → NodeCall s i j r → NodeRefusal (now s) i j n → n ≡ 0 → Part s r (span (nodeOffset (now s) i j) nodeSize)
@@ -119,11 +140,7 @@ pub record DemandOne : Type 0 where
   pub noOffset : {s : List ℕ} {i j k n : ℕ} → NodeOffset s i j k → NodeRefusal s i j n → (k ≡ 0) ↔ ¬ (n ≡ 0)
   -- a reading that is refused gives its number and nothing else
   pub noValues : {s : List ℕ} {x y kind : ℕ} {r : Answer} → Read s x y kind r → ¬ (outcome r .number ≡ 0) → outcome r .values ≡ []
-  -- the table: its numbers in order, the condition of each, and what the conditions say
-  pub order : map (λ r. r .number) table ≡ 1 ∷ 2 ∷ 3 ∷ 4 ∷ 5 ∷ 6 ∷ 7 ∷ 8 ∷ 9 ∷ 10 ∷ 11 ∷ []
-  pub listed : (u : Input) → map (λ r. r .condition u) table ≡
-      otherMark (u .sheet) ∷ otherVersion (u .sheet) ∷ otherCounts (u .sheet) ∷ otherLength (u .sheet) ∷ wrongLines (u .sheet) ∷ wrongNodes (u .sheet) ∷
-      offMesh (u .sheet) (u .x) (u .y) (u .count) ∷ emptyRun (u .count) ∷ otherKind (u .kind) ∷ noNode (u .sheet) (u .column) (u .row) ∷ wrongNumbers (u .numbers) ∷ []
+  -- what each condition says
   pub conditions : ConditionLaws
 
 -- ---- the surface that demands 2 and 3 speak of: `setOf s i j` is the set we read from in the cell in column i and row j

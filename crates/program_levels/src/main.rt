@@ -16,7 +16,7 @@ fn main() {
 }
 
 fn print(sheet: &[u8]) {
-    let refusal = sheet_checking::check(sheet);
+    let refusal = sheet_checking::sheet_refusal(sheet);
     if refusal != 0 {
         print_refusal(refusal);
         return;

@@ -4,7 +4,7 @@ use mathlib.Core.List.{List, [], _++_}
 use mathlib.Core.Bool.{cond}
 use lib.Dec.{eqb}
 use Rattle.sheet_layout.specs.Format.{columns, rows, lineX, lineY}
-use Rattle.sheet_calls.specs.Refusals.{checkRefusal, Accepted}
+use Rattle.sheet_calls.specs.Refusals.{Accepted, sheetRefusal}
 use Rattle.surface_of_sheet.specs.Surface.{level, tiltX, tiltY}
 use Rattle.program_text.specs.Text.{line, refusedLine}
 
@@ -46,7 +46,7 @@ rowText s y = fromTo (firstX s) (lastX s) (λ x. pixelLine s x y)
 
 -- all that is printed: of an accepted sheet the rows from the top, else the refusal's line
 unfoldable pub printed : List ℕ → List ℕ
-printed s = let n = checkRefusal s in cond (eqb n 0) (fromTo (firstY s) (lastY s) (rowText s)) (refusedLine n)
+printed s = let n = sheetRefusal s in cond (eqb n 0) (fromTo (firstY s) (lastY s) (rowText s)) (refusedLine n)
 
 -- ---- how long a text can be
 

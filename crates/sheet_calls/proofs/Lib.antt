@@ -1,8 +1,8 @@
 pub mod Some
 pub mod Ranges
 pub mod Conditions
+pub mod Rules
 pub mod Chains
-pub mod FirstHolds
 pub mod WellFormed
 pub mod StaysWellFormed
 pub mod Lookup

@@ -1,5 +1,5 @@
+pub mod Rules
 pub mod Refusals
-pub mod RefusalLaws
 pub mod WellFormed
 pub mod Calls
 pub mod NodeLaws

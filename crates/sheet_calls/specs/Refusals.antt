@@ -1,13 +1,13 @@
--- When a call is refused (01, "When the server declines"): one table of numbered conditions in order, and the number of the first that holds. Each
--- condition tests what its own line of 01 speaks of and presupposes none of the others. Assumes nothing.
+-- When a call is refused (01, "When the server declines"): the numbered conditions, which calls share, and each call's own rules made of them. A condition tests
+-- what its own line of 01 speaks of and presupposes none of the others. Assumes nothing.
 use Prim.Native.Nat.{ℕ, zero, suc, _+_, _-_}
 use mathlib.Core.Path.{_≡_}
-use mathlib.Core.List.{List, [], _∷_, _++_}
-use mathlib.Core.Bool.{Bool, false, cond, not, _&&_, _||_}
+use mathlib.Core.List.{List, [], _∷_, _++_, map}
+use mathlib.Core.Bool.{Bool, false, not, _&&_, _||_}
 use lib.ListN.{length}
 use lib.Dec.{ltb, leb, eqb}
-use lib.IntN.{pos}
-use Rattle.sheet_layout.specs.Format.{headerSize, marked, version, supported, columns, rows, countIn, reserved, lineX, lineY, furthest, widest, Node, node, nodeIn, nodeAt, sizeOf}
+use Rattle.sheet_layout.specs.Format.{headerSize, marked, version, supported, columns, rows, countIn, reserved, lineX, lineY, furthest, widest, Node, nodeIn, nodeAt, sizeOf}
+use Rattle.sheet_calls.specs.Rules.{Rule, rule, firstRefusal}
 
 -- p holds of some number below n
 unfoldable pub some : (ℕ → Bool) → ℕ → Bool
@@ -73,105 +73,97 @@ noNode s i j = leb (columns s) i || leb (rows s) j
 unfoldable pub wrongNumbers : Node → Bool
 wrongNumbers v = not (nodeIn v)
 
--- ---- the table
+-- ---- a sheet by itself
 
--- what a call is given
-pub record Input : Type 0 where
+-- a sheet is accepted when none of the conditions 1 to 6 holds
+pub record Accepted (s : List ℕ) : Type 0 where
+  pub one : otherMark s ≡ false
+  pub two : otherVersion s ≡ false
+  pub three : otherCounts s ≡ false
+  pub four : otherLength s ≡ false
+  pub five : wrongLines s ≡ false
+  pub six : wrongNodes s ≡ false
+
+-- the rules of the six, for a call with a sheet in its input
+unfoldable pub sheetRules : {Input : Type 0} → (Input → List ℕ) → List (Rule Input)
+sheetRules sheet =
+    rule 1 (λ u. otherMark (sheet u)) ∷
+    rule 2 (λ u. otherVersion (sheet u)) ∷
+    rule 3 (λ u. otherCounts (sheet u)) ∷
+    rule 4 (λ u. otherLength (sheet u)) ∷
+    rule 5 (λ u. wrongLines (sheet u)) ∷
+    rule 6 (λ u. wrongNodes (sheet u)) ∷
+    []
+
+-- the number of the first of the six that holds, or 0: what every call asks of its sheet
+unfoldable pub sheetRefusal : List ℕ → ℕ
+sheetRefusal s = firstRefusal (sheetRules (λ s. s)) s
+
+-- ---- each call: what it is given, its rules in the order of looking, and the number that refuses it, or 0
+
+-- checking
+unfoldable pub checkRules : List (Rule (List ℕ))
+checkRules = sheetRules (λ s. s)
+
+unfoldable pub checkRefusal : List ℕ → ℕ
+checkRefusal s = firstRefusal checkRules s
+
+-- looking up a node
+pub record LookupInput : Type 0 where
   pub sheet : List ℕ
-  -- the column and row of a node, and the numbers that it is set to
+  pub column : ℕ
+  pub row : ℕ
+
+unfoldable pub lookupRules : List (Rule LookupInput)
+lookupRules = sheetRules (λ u. u .sheet) ++ rule 10 (λ u. noNode (u .sheet) (u .column) (u .row)) ∷ []
+
+unfoldable pub lookupRefusal : List ℕ → ℕ → ℕ → ℕ
+lookupRefusal s i j = firstRefusal lookupRules (record { sheet = s; column = i; row = j })
+
+-- setting a node to new numbers
+pub record SettingInput : Type 0 where
+  pub sheet : List ℕ
   pub column : ℕ
   pub row : ℕ
   pub numbers : Node
-  -- a pixel, the length of the run that starts there, the kind of reading
+
+unfoldable pub settingRules : List (Rule SettingInput)
+settingRules = sheetRules (λ u. u .sheet) ++ rule 10 (λ u. noNode (u .sheet) (u .column) (u .row)) ∷ rule 11 (λ u. wrongNumbers (u .numbers)) ∷ []
+
+unfoldable pub settingRefusal : List ℕ → ℕ → ℕ → Node → ℕ
+settingRefusal s i j v = firstRefusal settingRules (record { sheet = s; column = i; row = j; numbers = v })
+
+-- reading at a pixel
+pub record ReadingInput : Type 0 where
+  pub sheet : List ℕ
+  pub x : ℕ
+  pub y : ℕ
+  pub kind : ℕ
+
+unfoldable pub readingRules : List (Rule ReadingInput)
+readingRules = sheetRules (λ u. u .sheet) ++ rule 7 (λ u. outside (u .sheet) (u .x) (u .y)) ∷ rule 9 (λ u. otherKind (u .kind)) ∷ []
+
+unfoldable pub readingRefusal : List ℕ → ℕ → ℕ → ℕ → ℕ
+readingRefusal s x y kind = firstRefusal readingRules (record { sheet = s; x = x; y = y; kind = kind })
+
+-- a run of count pixels
+pub record RunInput : Type 0 where
+  pub sheet : List ℕ
   pub x : ℕ
   pub y : ℕ
   pub count : ℕ
-  pub kind : ℕ
 
--- a line of the table: a numbered condition
-pub record Rule : Type 0 where
-  pub number : ℕ
-  pub condition : Input → Bool
-
-abbrev pub rule : ℕ → (Input → Bool) → Rule
-rule n p = record { number = n; condition = p }
-
-unfoldable pub table : List Rule
-table =
-    rule 1 (λ u. otherMark (u .sheet)) ∷
-    rule 2 (λ u. otherVersion (u .sheet)) ∷
-    rule 3 (λ u. otherCounts (u .sheet)) ∷
-    rule 4 (λ u. otherLength (u .sheet)) ∷
-    rule 5 (λ u. wrongLines (u .sheet)) ∷
-    rule 6 (λ u. wrongNodes (u .sheet)) ∷
-    rule 7 (λ u. offMesh (u .sheet) (u .x) (u .y) (u .count)) ∷
-    rule 8 (λ u. emptyRun (u .count)) ∷
-    rule 9 (λ u. otherKind (u .kind)) ∷
-    rule 10 (λ u. noNode (u .sheet) (u .column) (u .row)) ∷
-    rule 11 (λ u. wrongNumbers (u .numbers)) ∷
-    []
-
--- the number of the first rule whose condition holds, or 0
-unfoldable pub first : List Rule → Input → ℕ
-first [] u = 0
-first (r ∷ t) u = cond (r .condition u) (r .number) (first t u)
-
--- ---- each call's part of the table
-
-unfoldable pub member : ℕ → List ℕ → Bool
-member n [] = false
-member n (k ∷ ks) = eqb n k || member n ks
-
--- the rules with these numbers, in the order of the table
-unfoldable pub part : List ℕ → List Rule → List Rule
-part ks [] = []
-part ks (r ∷ t) = cond (member (r .number) ks) (r ∷ part ks t) (part ks t)
-
--- the checks that concern every call, and those of each call of 01
-abbrev pub sheetChecks : List ℕ
-sheetChecks = 1 ∷ 2 ∷ 3 ∷ 4 ∷ 5 ∷ 6 ∷ []
-
-abbrev pub lookupChecks : List ℕ
-lookupChecks = sheetChecks ++ 10 ∷ []
-
-abbrev pub settingChecks : List ℕ
-settingChecks = sheetChecks ++ 10 ∷ 11 ∷ []
-
-abbrev pub readingChecks : List ℕ
-readingChecks = sheetChecks ++ 7 ∷ 9 ∷ []
-
-abbrev pub runChecks : List ℕ
-runChecks = sheetChecks ++ 7 ∷ 8 ∷ []
-
--- a node whose numbers no check looks at
-abbrev pub zeroNode : Node
-zeroNode = node (pos 0) (pos 0) (pos 0)
-
--- what each call is given, 0 where its checks do not look: a sheet alone; a node and its new numbers; a pixel, a run's length (a reading has no run) and a kind
-abbrev pub atPixel : List ℕ → ℕ → ℕ → ℕ → ℕ → Input
-atPixel s x y count kind = record { sheet = s; column = 0; row = 0; numbers = zeroNode; x = x; y = y; count = count; kind = kind }
-
-abbrev pub atNode : List ℕ → ℕ → ℕ → Node → Input
-atNode s i j v = record { sheet = s; column = i; row = j; numbers = v; x = 0; y = 0; count = 0; kind = 0 }
-
-abbrev pub ofSheet : List ℕ → Input
-ofSheet s = atNode s 0 0 zeroNode
-
-unfoldable pub checkRefusal : List ℕ → ℕ
-checkRefusal s = first (part sheetChecks table) (ofSheet s)
-
-unfoldable pub lookupRefusal : List ℕ → ℕ → ℕ → ℕ
-lookupRefusal s i j = first (part lookupChecks table) (atNode s i j zeroNode)
-
-unfoldable pub settingRefusal : List ℕ → ℕ → ℕ → Node → ℕ
-settingRefusal s i j v = first (part settingChecks table) (atNode s i j v)
-
-unfoldable pub readingRefusal : List ℕ → ℕ → ℕ → ℕ → ℕ
-readingRefusal s x y kind = first (part readingChecks table) (atPixel s x y 0 kind)
+unfoldable pub runRules : List (Rule RunInput)
+runRules = sheetRules (λ u. u .sheet) ++ rule 7 (λ u. offMesh (u .sheet) (u .x) (u .y) (u .count)) ∷ rule 8 (λ u. emptyRun (u .count)) ∷ []
 
 unfoldable pub runRefusal : List ℕ → ℕ → ℕ → ℕ → ℕ
-runRefusal s x y count = first (part runChecks table) (atPixel s x y count 0)
+runRefusal s x y count = firstRefusal runRules (record { sheet = s; x = x; y = y; count = count })
 
--- a sheet is accepted when none of the conditions 1 to 6 holds
-unfoldable pub Accepted : List ℕ → Type 0
-Accepted s = checkRefusal s ≡ 0
+-- ---- the numbers that each call looks at, in order
+
+pub record CallNumbers : Type 0 where
+  pub check : map (λ r. r .number) checkRules ≡ 1 ∷ 2 ∷ 3 ∷ 4 ∷ 5 ∷ 6 ∷ []
+  pub lookup : map (λ r. r .number) lookupRules ≡ 1 ∷ 2 ∷ 3 ∷ 4 ∷ 5 ∷ 6 ∷ 10 ∷ []
+  pub setting : map (λ r. r .number) settingRules ≡ 1 ∷ 2 ∷ 3 ∷ 4 ∷ 5 ∷ 6 ∷ 10 ∷ 11 ∷ []
+  pub reading : map (λ r. r .number) readingRules ≡ 1 ∷ 2 ∷ 3 ∷ 4 ∷ 5 ∷ 6 ∷ 7 ∷ 9 ∷ []
+  pub run : map (λ r. r .number) runRules ≡ 1 ∷ 2 ∷ 3 ∷ 4 ∷ 5 ∷ 6 ∷ 7 ∷ 8 ∷ []

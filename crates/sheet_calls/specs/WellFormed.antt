@@ -8,7 +8,7 @@ use lib.ListN.{length}
 use Rattle.integers.specs.Within.{_within_}
 use Rattle.sheet_words.specs.Word.{byteAt}
 use Rattle.sheet_layout.specs.Format.{version, columns, rows, lineX, lineY, Node, nodeAt}
-use Rattle.sheet_calls.specs.Refusals.{otherMark, otherVersion, otherCounts, otherLength, wrongLines, wrongNodes, offMesh, emptyRun, otherKind, noNode, wrongNumbers, Accepted}
+use Rattle.sheet_calls.specs.Refusals.{otherMark, otherVersion, otherCounts, otherLength, wrongLines, wrongNodes, outside, offMesh, emptyRun, otherKind, noNode, wrongNumbers, Accepted}
 
 -- the positions of an axis's n lines: none exceeds 4,096, each rises above the one before, by at most 64
 pub record Rising (line : ℕ → ℕ) (n : ℕ) : Type 0 where
@@ -43,8 +43,9 @@ pub record ConditionLaws : Type 0 where
   pub four : (s : List ℕ) → (otherLength s ≡ false) ↔ (length s ≡ 8 + 2 * columns s + 2 * rows s + 6 * (columns s * rows s))
   pub five : (s : List ℕ) → (wrongLines s ≡ false) ↔ (Rising (lineX s) (columns s) × Rising (lineY s) (rows s))
   pub six : (s : List ℕ) → (wrongNodes s ≡ false) ↔ ((j : ℕ) → j < rows s → (i : ℕ) → i < columns s → InRange (nodeAt s i j))
-  -- the last of a run's pixels is k to the right of its first, where the run has k + 1
-  pub seven : (s : List ℕ) (x y count : ℕ) → (offMesh s x y count ≡ false) ↔ (Inside s x y × ((k : ℕ) → count ≡ k + 1 → Inside s (x + k) y))
+  -- of a reading's pixel; of a run's first, and of its last, which is k to the right of the first where the run has k + 1
+  pub seven : (s : List ℕ) (x y : ℕ) → (outside s x y ≡ false) ↔ Inside s x y
+  pub sevenOfRun : (s : List ℕ) (x y count : ℕ) → (offMesh s x y count ≡ false) ↔ (Inside s x y × ((k : ℕ) → count ≡ k + 1 → Inside s (x + k) y))
   pub eight : (count : ℕ) → (emptyRun count ≡ false) ↔ (0 < count)
   pub nine : (kind : ℕ) → (otherKind kind ≡ false) ↔ (kind ≤ 2)
   pub ten : (s : List ℕ) (i j : ℕ) → (noNode s i j ≡ false) ↔ ((i < columns s) × (j < rows s))

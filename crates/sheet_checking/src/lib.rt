@@ -5,7 +5,7 @@ ghost use Prim.Native.Nat.{_+_, _*_, _≤_, _<_};
 ghost use lib.ListN.{length};
 ghost use Rattle.sheet_words.specs.Word.{wordAt, signed};
 ghost use Rattle.sheet_layout.specs.Format.{headerSize, columns, rows, lineFrom, countIn, slopeIn, sizeOf};
-ghost use Rattle.sheet_calls.specs.Refusals.{some, otherMark, otherVersion, otherCounts, otherLength, wrongStep, wrongLine, wrongLines, wrongNodes, checkRefusal};
+ghost use Rattle.sheet_calls.specs.Refusals.{some, otherMark, otherVersion, otherCounts, otherLength, wrongStep, wrongLine, wrongLines, wrongNodes, sheetRefusal, checkRefusal};
 use sheet_layout::HEADER_SIZE;
 use sheet_layout::NODE_SIZE;
 use sheet_layout::columns;
@@ -16,9 +16,9 @@ use sheet_layout::rows;
 use sheet_layout::y_lines_offset;
 use sheet_words::word;
 
-// 0 where the sheet is accepted, else the number of the first condition that holds.
-pub fn check(sheet: &[u8]) -> u32
-    ensures { λ r. ⌜ r ≡ checkRefusal (now (sheet .entry)) ⌝ }
+// The number of the first condition that holds, or 0 where the sheet is accepted.
+pub fn sheet_refusal(sheet: &[u8]) -> u32
+    ensures { λ r. ⌜ r ≡ sheetRefusal (now (sheet .entry)) ⌝ }
 {
     if other_mark(sheet) {
         return 1;
@@ -29,13 +29,20 @@ pub fn check(sheet: &[u8]) -> u32
     if other_counts(sheet) {
         return 3;
     }
-    check_body(sheet)
+    body_refusal(sheet)
+}
+
+// What the call `check` answers. Other calls ask `sheet_refusal`.
+pub fn check(sheet: &[u8]) -> u32
+    ensures { λ r. ⌜ r ≡ checkRefusal (now (sheet .entry)) ⌝ }
+{
+    sheet_refusal(sheet)
 }
 
 // The checks behind those of the header.
-fn check_body(sheet: &[u8]) -> u32
+fn body_refusal(sheet: &[u8]) -> u32
     requires { ⌜ (otherMark (now sheet) ≡ false) × (otherVersion (now sheet) ≡ false) × (otherCounts (now sheet) ≡ false) ⌝ }
-    ensures { λ r. ⌜ r ≡ checkRefusal (now (sheet .entry)) ⌝ }
+    ensures { λ r. ⌜ r ≡ sheetRefusal (now (sheet .entry)) ⌝ }
 {
     if other_length(sheet) {
         return 4;

@@ -9,16 +9,17 @@ use mir.Syntax.{w32}
 use mir.Val.{SFits, toZ, ofZ}
 use Rattle.sheet_words.specs.Word.{replaced}
 use Rattle.sheet_layout.specs.Format.{Node, node, encoded, nodeSize, nodeOffset}
-use Rattle.sheet_calls.specs.Refusals.{noNode, wrongNumbers, checkRefusal, lookupRefusal, settingRefusal}
+use Rattle.sheet_calls.specs.Refusals.{noNode, wrongNumbers, sheetRefusal, lookupRefusal, settingRefusal}
 use Rattle.sheet_calls.specs.Calls.{span, lookedUp, withNode}
-use Rattle.sheet_calls.proofs.Chains.{refused-by, passed-by, lookup-is, setting-is}
+use Rattle.sheet_calls.proofs.Rules.{refused-by, passed-by}
+use Rattle.sheet_calls.proofs.Chains.{lookup-is, setting-is}
 use Rattle.sheet_calls.proofs.Lookup.{lookup-laws}
 use Rattle.sheet_calls.proofs.Setting.{set-is, refused-is}
 use Rattle.sheet_layout.proofs.Numbers.{back}
 
 -- ---- the lookup's
 
-module _ (s : List ℕ) (i j : ℕ) {r : ℕ} (e : r ≡ checkRefusal s) where
+module _ (s : List ℕ) (i j : ℕ) {r : ℕ} (e : r ≡ sheetRefusal s) where
   pub node-answer : r ≡ 0 → {b : Bool} → noNode s i j ≡ b → cond b 10 0 ≡ lookupRefusal s i j
   node-answer h q = ap (λ b. cond b 10 0) (sym q) ∙ passed-by _ _ (lookup-is s i j) e h
 

@@ -5,7 +5,7 @@ ghost use lib.ListN.{length};
 ghost use Rattle.sheet_layout.specs.Format.{headerSize, node, slopeIn, nodeSize, nodeOffset};
 ghost use Rattle.sheet_calls.specs.Refusals.{noNode, wrongNumbers, lookupRefusal, settingRefusal};
 ghost use Rattle.sheet_calls.specs.Calls.{lookedUp, span, Part, withNode};
-use sheet_checking::check;
+use sheet_checking::sheet_refusal;
 use sheet_layout::NODE_SIZE;
 use sheet_layout::columns;
 use sheet_layout::node_offset;
@@ -26,7 +26,7 @@ pub fn node(sheet: &[u8], column: u32, row: u32) -> &[u8]
 pub fn node_refusal(sheet: &[u8], column: u32, row: u32) -> u32
     ensures { λ r. ⌜ r ≡ lookupRefusal (now (sheet .entry)) column row ⌝ }
 {
-    let refusal = check(sheet);
+    let refusal = sheet_refusal(sheet);
     if refusal != 0 {
         return refusal;
     }

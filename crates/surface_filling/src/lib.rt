@@ -4,7 +4,7 @@ ghost use Prim.Native.Nat.{_≤_};
 ghost use lib.ListN.{length, take};
 ghost use Rattle.sheet_calls.specs.Refusals.{offMesh, runRefusal, Accepted};
 ghost use Rattle.surface_of_sheet.specs.Run.{levelsAlong, filled};
-use sheet_checking::check;
+use sheet_checking::sheet_refusal;
 use surface_places::outside;
 use surface_runs::run;
 
@@ -29,7 +29,7 @@ pub fn fill_run(sheet: &[u8], x: u32, y: u32, levels: &mut [i32]) -> u32
 fn run_refusal(sheet: &[u8], x: u32, y: u32, count: usize) -> u32
     ensures { λ r. ⌜ r ≡ runRefusal (now (sheet .entry)) x y count ⌝ }
 {
-    let refusal = check(sheet);
+    let refusal = sheet_refusal(sheet);
     if refusal != 0 {
         return refusal;
     }

@@ -12,7 +12,7 @@ ghost use Rattle.surface_of_sheet.specs.Surface as surface;
 ghost use Rattle.surface_of_sheet.specs.Read.{numbers, read};
 ghost use Rattle.surface_pixels.specs.Located.{located};
 use element_evaluation::Pixel;
-use sheet_checking::check;
+use sheet_checking::sheet_refusal;
 use surface_answers::Answer;
 use surface_answers::BendReading;
 use surface_answers::LevelReading;
@@ -56,7 +56,7 @@ pub fn level_and_tilt(sheet: &[u8], x: u32, y: u32) -> [i64; 3]
 fn read_refusal(sheet: &[u8], x: u32, y: u32, kind: u32) -> u32
     ensures { λ r. ⌜ r ≡ readingRefusal (now (sheet .entry)) x y kind ⌝ }
 {
-    let refusal = check(sheet);
+    let refusal = sheet_refusal(sheet);
     if refusal != 0 {
         return refusal;
     }

@@ -1,9 +1,9 @@
--- `sheet_checking::check_body` meets its contract. Assumes nothing.
+-- `sheet_checking::body_refusal` meets its contract. Assumes nothing.
 use mathlib.Core.Path.{sym, _∙_}
 use Rattle.sheet_calls.proofs.Conditions.{condition-laws}
 use Rattle.sheet_checking.proofs.Verdicts.{header, by-length, by-lines, by-nodes, accepts, lines-there}
-use Rattle.sheet_checking.proofs.check_body.Statement.{statement}
-use Rattle.sheet_checking.proofs.check_body.Tie as tie
+use Rattle.sheet_checking.proofs.body_refusal.Statement.{statement}
+use Rattle.sheet_checking.proofs.body_refusal.Tie as tie
 
 other-length-requires : tie.Need-other-length-requires
 other-length-requires c κs = header _ (c .before .pre .0)
@@ -28,8 +28,8 @@ returns-3 c = by-nodes _ (c .before .before .before .before .before .before .bef
 returns-4 : tie.Need-returns-4
 returns-4 c = accepts _ (c .before .before .before .before .before .before .before .pre) (sym (c .before .before .before .before .before .other-length .ensures) ∙ c .before .before .before .before .if1 .left) (sym (c .before .before .before .wrong-lines .ensures) ∙ c .before .before .if2 .left) (sym (c .before .wrong-nodes .ensures) ∙ c .if3 .left)
 
-pub check-body-spec : {M : Type 1} → statement M
-check-body-spec =
+pub body-refusal-spec : {M : Type 1} → statement M
+body-refusal-spec =
     tie.close
     (tie.spec
     other-length-requires
