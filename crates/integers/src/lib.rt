@@ -1,4 +1,4 @@
-// Division that rounds down, and the rounding rule, on 64-bit integers: numerators within 2⁶², denominators from 1 to 2³⁷.
+// Division that rounds down, and the rounding rule, on 64-bit integers: numerators within 2⁶², denominators from 1 to 2³⁷; and the smaller of two numbers.
 pub mod theorems;
 
 ghost use mathlib.Core.Path.{_≡_};

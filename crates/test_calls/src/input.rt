@@ -1,6 +1,6 @@
 // Parts and numbers of the input, the low byte first, and a copy of a sheet.
-ghost use Prim.Native.Nat.{_≤_};
 ghost use Rattle.io.specs.Counts.{Counts};
+use integers::least;
 use libc::STDIN_FILENO;
 use sheet_words::wide;
 
@@ -11,12 +11,6 @@ pub fn part(size: u32, to: &mut [u8]) -> usize
     let count = least(size as usize, to.len());
     io::read_full(STDIN_FILENO, &mut to[0..count]);
     count
-}
-
-fn least(a: usize, b: usize) -> usize
-    ensures { λ r. ⌜ (r ≤ a) × (r ≤ b) ⌝ }
-{
-    if a < b { a } else { b }
 }
 
 // A number of 16 bits.

@@ -1,4 +1,5 @@
 -- `test_calls::input::copy` meets its contract. Assumes nothing.
+use native.Mathlib.Omega.{arith}
 use borrow.Author.Needs.{needs}
 use Prim.Native.Nat.{_-_}
 use mathlib.Core.Path.{_≡_}
@@ -17,7 +18,7 @@ same-length : tie.Need-same-length Inv-loop μ-loop
 same-length c = search needs
 
 returns : tie.Need-returns Inv-loop μ-loop
-returns c = counts _ _ (rw (same-length c) (c .before .before .least .ensures .1))
+returns c = counts _ _ (let small = c .before .before .least .ensures in omega (arith, same-length c))
 
 pub copy-spec : {M : Type 1} → statement M
 copy-spec =

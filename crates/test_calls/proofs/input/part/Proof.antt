@@ -1,4 +1,5 @@
 -- `test_calls::input::part` meets its contract. Assumes nothing.
+use native.Mathlib.Omega.{arith}
 use borrow.Author.Needs.{needs}
 use Rattle.io.proofs.Counting.{counts}
 use Rattle.test_calls.proofs.input.part.Statement.{statement}
@@ -8,7 +9,7 @@ same-length : tie.Need-same-length
 same-length c = search needs
 
 returns : tie.Need-returns
-returns c = counts _ _ (rw (same-length c) (c .before .before .before .before .least .ensures .1))
+returns c = counts _ _ (let small = c .before .before .before .before .least .ensures in omega (arith, same-length c))
 
 pub part-spec : {M : Type 1} → statement M
 part-spec =
