@@ -1,8 +1,8 @@
 """For the tools that make the input and the expected output of test programs: the format of a sheet; what each call gives, worked out in exact fractions
-from the description of the format and of the surface; the outside vectors; and how a program's cases are written.
+from the description of the format and of the surface; and the outside vectors.
 
-What is read on a sheet that has an X.readings.txt is taken from it. Every number of these files, and that of every line of calls.txt that a tool takes,
-is first compared with the one worked out here; where one differs, the tool stops and writes nothing.
+What is read on a sheet that has an X.readings.txt is taken from it. Every number of these files and of calls.txt is first compared with the one worked
+out here; where one differs, the tool stops and writes nothing.
 """
 import functools
 import itertools
@@ -289,44 +289,18 @@ def readings_files():
     assert sum(map(len, FROM_FILES.values())) == 2294
 
 
-def calls_by_sheet(verbs, total):
-    """The calls of calls.txt with these verbs, by sheet. Each number there must be the one worked out here. A column or row of −1, which six of its
-    lines have, is handed over as the unsigned number with the same 32 bits."""
+def calls_by_sheet():
+    """The calls of calls.txt, by sheet. Each number there must be the one worked out here. A column or row of −1, which six of its lines have, is handed
+    over as the unsigned number with the same 32 bits."""
     by_sheet = {}
     for line in (VECTORS / "calls.txt").read_text().splitlines():
         call, number = line.split(" -> ")
         verb, name, *arguments = call.split()
-        if verb in verbs:
-            place = (int(k) % 2**32 for k in arguments[:2])
-            by_sheet.setdefault(name, []).append((verb, (*place, *map(int, arguments[2:])), int(number)))
-    assert sum(map(len, by_sheet.values())) == total
+        place = (int(k) % 2**32 for k in arguments[:2])
+        by_sheet.setdefault(name, []).append((verb, (*place, *map(int, arguments[2:])), int(number)))
+    assert sum(map(len, by_sheet.values())) == 3244
     for name, calls in by_sheet.items():
         sheet = vector(name)
         for verb, arguments, number in calls:
             assert refusal(verb, sheet, arguments) == number, (verb, name, arguments, number)
         yield name, sheet, [call[:2] for call in calls]
-
-
-# ---- a program's input and output: cases, each a name, a sheet and its calls, each a verb and its arguments
-
-
-def case_bytes(name, sheet, calls, call_bytes):
-    assert len(name) <= 64 and len(sheet) <= 26000
-    yield struct.pack("<3H", len(name), len(sheet), len(calls)) + name.encode() + sheet
-    for verb, arguments in calls:
-        yield call_bytes(verb, arguments)
-
-
-def case_lines(name, sheet, calls):
-    for verb, arguments in calls:
-        yield " ".join(map(str, [verb, name, *arguments, "->", outcome(verb, sheet, arguments)])) + "\n"
-
-
-def write(program, cases, call_bytes, before=""):
-    """The files stdin and stdout of the program; before is what it prints first."""
-    # large sheets and many calls come last: the interpreter of `rt try` runs out of steps, and so meets more of the others
-    cases = sorted(cases, key=lambda entry: len(entry[1]) > 20000 or len(entry[2]) > 300)
-    assert len({name for name, _, _ in cases}) == len(cases) <= 4096
-    folder = ROOT / "crates" / program
-    (folder / "stdin").write_bytes(b"".join(part for entry in cases for part in case_bytes(*entry, call_bytes)))
-    (folder / "stdout").write_text(before + "".join(line for entry in cases for line in case_lines(*entry)))

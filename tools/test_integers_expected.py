@@ -20,4 +20,4 @@ for d in table("DENOMINATORS"):
     for n in table("NUMERATORS"):
         exact = Fraction(n, d)
         rounded = math.floor(exact + Fraction(1, 2))
-        print(n, d, math.floor(exact), rounded, rounded)
+        print(n, d, math.floor(exact), rounded, *([rounded] if abs(exact) <= 2**24 else []))

@@ -10,4 +10,3 @@ pub mod Bounds
 pub mod Changes
 pub mod CornerWeights
 pub mod AtCorners
-pub mod Examples

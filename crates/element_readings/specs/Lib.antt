@@ -1,3 +1,2 @@
 pub mod Reading
 pub mod Bounds
-pub mod Examples

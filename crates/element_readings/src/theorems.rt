@@ -2,7 +2,6 @@
 ghost use mathlib.Core.Path.{_≡_};
 ghost use Rattle.element_readings.specs.Reading.{HalfUnit};
 ghost use Rattle.element_readings.specs.Bounds.{Bounds, WeightSums, CornerWeights, AtCorners};
-ghost use Rattle.element_readings.specs.Examples.{Examples};
 
 pub fn half_unit() -> u64
     ensures { λ r. ⌜ (r ≡ 0) × HalfUnit ⌝ }
@@ -30,12 +29,6 @@ pub fn corner_weights() -> u64
 
 pub fn at_corners() -> u64
     ensures { λ r. ⌜ (r ≡ 0) × AtCorners ⌝ }
-{
-    0
-}
-
-pub fn examples() -> u64
-    ensures { λ r. ⌜ (r ≡ 0) × Examples ⌝ }
 {
     0
 }

@@ -17,4 +17,3 @@ pub mod Blank
 pub mod Difference
 pub mod SameValues
 pub mod Unique
-pub mod Worked

@@ -5,4 +5,3 @@ pub mod Conditions
 pub mod Element
 pub mod Theorems
 pub mod Sense
-pub mod Examples

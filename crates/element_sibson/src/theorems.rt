@@ -2,7 +2,6 @@
 ghost use mathlib.Core.Path.{_≡_};
 ghost use Rattle.element_sibson.specs.Theorems.{Uniqueness, Existence, Edges};
 ghost use Rattle.element_sibson.specs.Sense.{FractionLaws, SameValues, Derivatives, Turnings, Linearity, Covering};
-ghost use Rattle.element_sibson.specs.Examples.{Examples};
 
 pub fn uniqueness() -> u64
     ensures { λ r. ⌜ (r ≡ 0) × Uniqueness ⌝ }
@@ -54,12 +53,6 @@ pub fn linearity() -> u64
 
 pub fn covering() -> u64
     ensures { λ r. ⌜ (r ≡ 0) × Covering ⌝ }
-{
-    0
-}
-
-pub fn examples() -> u64
-    ensures { λ r. ⌜ (r ≡ 0) × Examples ⌝ }
 {
     0
 }

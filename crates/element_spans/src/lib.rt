@@ -18,6 +18,7 @@ ghost use Rattle.element_spans.specs.Needs.{FitsCell, Small, Levels};
 use element_evaluation::Pixel;
 use element_pieces::Piece;
 use integers::Denominator;
+use integers::least;
 
 // Where a row of pixels leaves the left piece of a cell, and the one between left and right: the first offsets beyond them; and whether it lies in the upper
 // half, where that one is the top piece, not the bottom one.
@@ -149,11 +150,4 @@ fn level(n: i64, d: Denominator) -> i32
     ensures { λ r. ⌜ r ≡ round n (natAbs (d .value)) ⌝ }
 {
     d.round_small(n) as i32
-}
-
-// The smaller of two numbers.
-pub fn least(a: usize, b: usize) -> usize
-    ensures { λ r. ⌜ r ≡ min a b ⌝ }
-{
-    if a < b { a } else { b }
 }

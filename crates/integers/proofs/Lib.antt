@@ -12,5 +12,4 @@ pub mod Rounding
 pub mod Prepared
 mod Rest
 mod Constants
-mod Examples
 pub mod Parameters

@@ -13,7 +13,6 @@ use mir.Syntax.{Width}
 use mir.Val.{Fits, SFits, bits, hbits, toZ, ofZ}
 use mir.ValLaws.{toZ-ofZ, toZ-pos}
 use Rattle.integers.specs.Within.{_within_}
-use Rattle.integers.proofs.Order.{not-leZ}
 use Rattle.integers.proofs.Bounds.{is-within, within-self, within-neg, within-+, within--, within-*, within-quot, within-shr}
 
 pub record Operand : Type 0 where
@@ -146,9 +145,6 @@ module _ (x y : Operand) where
 
   pub at-most : leZ (x .read) (y .read) ≡ true → x .number ≤ℤ y .number
   at-most e = leZ-yes (passed (sym at-most-is ∙ e))
-
-  pub not-at-most : leZ (x .read) (y .read) ≡ false → y .number <ℤ x .number
-  not-at-most e = not-leZ (x .number) (y .number) (failed (sym at-most-is ∙ e))
 
 -- ---- casts to an unsigned width, of a number that is not negative
 

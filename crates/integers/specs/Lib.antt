@@ -3,4 +3,3 @@ pub mod Floor
 pub mod Round
 pub mod Ratio
 pub mod Constants
-pub mod Examples

@@ -1,15 +1,15 @@
-// Division that rounds down, and the rounding rule, on 64-bit integers: numerators within 2⁶², denominators from 1 to 2³⁷.
+// Division that rounds down, and the rounding rule, on 64-bit integers: numerators within 2⁶², denominators from 1 to 2³⁷; and the smaller of two numbers.
 pub mod theorems;
 
 ghost use mathlib.Core.Path.{_≡_};
-ghost use Prim.Native.Nat.{_^_};
+ghost use Prim.Native.Nat.{_^_, min};
 ghost use lib.IntN.{pos, natAbs, _+ℤ_, _*ℤ_};
 ghost use lib.Signed.{_≤ℤ_, _<ℤ_};
 ghost use Rattle.integers.specs.Within.{_within_};
 ghost use Rattle.integers.specs.Floor.{floorDiv};
 ghost use Rattle.integers.specs.Round.{round};
 ghost use Rattle.integers.specs.Ratio.{Denominates, Ratio};
-ghost use Rattle.integers.specs.Constants.{constants, Prepared, InReach};
+ghost use Rattle.integers.specs.Constants.{constants, InReach};
 
 // n / d rounded down.
 pub fn floor_div(n: i64, d: i64) -> i64
@@ -50,21 +50,7 @@ impl Denominator {
         }
     }
 
-    // n / d rounded by the rule.
-    pub fn round(self, n: i64) -> i64
-        requires { ⌜ Prepared self × (n within (2 ^ 62)) ⌝ }
-        ensures { λ r. ⌜ r ≡ round n (natAbs (self .value)) ⌝ }
-    {
-        let d = self.value;
-        let reach = 16777216 * d;
-        if -reach <= n && n <= reach {
-            self.round_small(n)
-        } else {
-            round(n, d)
-        }
-    }
-
-    // The same for quotients within 2²⁴: a guess that is nearly always right, and the division where it is not.
+    // n / d rounded by the rule, for quotients within 2²⁴: a guess that is nearly always right, and the division where it is not.
     pub fn round_small(self, n: i64) -> i64
         requires { ⌜ InReach n self ⌝ }
         ensures { λ r. ⌜ r ≡ round n (natAbs (self .value)) ⌝ }
@@ -99,4 +85,11 @@ fn nearest(q: i64, rest: i64, d: i64) -> i64
     } else {
         q + 1
     }
+}
+
+// The smaller of two numbers.
+pub fn least(a: usize, b: usize) -> usize
+    ensures { λ r. ⌜ r ≡ min a b ⌝ }
+{
+    if a < b { a } else { b }
 }

@@ -2,7 +2,6 @@
 ghost use mathlib.Core.Path.{_≡_};
 ghost use Rattle.integers.specs.Floor.{FloorLaws};
 ghost use Rattle.integers.specs.Round.{RoundingLaws};
-ghost use Rattle.integers.specs.Examples.{Quarters, Means, EightSquares};
 
 pub fn floor_laws() -> u64
     ensures { λ r. ⌜ (r ≡ 0) × FloorLaws ⌝ }
@@ -12,12 +11,6 @@ pub fn floor_laws() -> u64
 
 pub fn rounding_laws() -> u64
     ensures { λ r. ⌜ (r ≡ 0) × RoundingLaws ⌝ }
-{
-    0
-}
-
-pub fn examples() -> u64
-    ensures { λ r. ⌜ (r ≡ 0) × Quarters × Means × EightSquares ⌝ }
 {
     0
 }

@@ -64,7 +64,7 @@ pub fn find(sheet: &[u8], x: u32, y: u32) -> Place
 }
 
 // The lowest piece that holds the pixel.
-pub fn piece(p: Pixel) -> Piece
+fn piece(p: Pixel) -> Piece
     requires { ⌜ pixels.Inside p ⌝ }
     ensures { λ r. ⌜ r ≡ named (pieceAt (pixels.pointOf p)) ⌝ }
 {

@@ -10,7 +10,7 @@ ghost use Rattle.element_spans.specs.Span.{laid};
 ghost use Rattle.surface_runs.specs.Strips.{stripLevel, doneIn, AtColumn};
 use element_evaluation::Pixel;
 use element_spans::fill_cell;
-use element_spans::least;
+use integers::least;
 use sheet_layout::columns;
 use sheet_layout::line_x;
 use surface_cells::corner_numbers;

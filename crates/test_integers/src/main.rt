@@ -1,11 +1,11 @@
 // Runs the three ways to divide on numbers about ties, signs, the reach of the guess and the ends of the range. The expected output is from
-// exact arithmetic on fractions. A line: numerator, denominator, rounded down, rounded, rounded by prepared constants.
+// exact arithmetic on fractions. A line: numerator, denominator, rounded down, rounded, and, where the guess reaches, rounded by prepared constants.
 ghost use Rattle.integers.specs.Ratio.{Ratio};
 use integers::Denominator;
 use test_printing::field;
 use test_printing::last;
 
-const NUMERATORS: [i64; 24] = [
+const NUMERATORS: [i64; 28] = [
     0,
     1,
     -1,
@@ -21,6 +21,10 @@ const NUMERATORS: [i64; 24] = [
     -511,
     262080,
     -262080,
+    16777216,
+    -16777216,
+    16777217,
+    -16777217,
     8589934591,
     -8589934593,
     206158430208,
@@ -47,8 +51,8 @@ const DENOMINATORS: [i64; 10] = [
 
 fn main() {
     let mut k = 0;
-    while k < 240 {
-        line(NUMERATORS[k % 24], DENOMINATORS[k / 24]);
+    while k < 280 {
+        line(NUMERATORS[k % 28], DENOMINATORS[k / 28]);
         k += 1;
     }
 }
@@ -70,6 +74,11 @@ fn results(n: i64, d: i64)
     requires { ⌜ Ratio n d ⌝ }
 {
     field(integers::floor_div(n, d));
-    field(integers::round(n, d));
-    last(Denominator::new(d).round(n));
+    let reach = 16777216 * d;
+    if -reach <= n && n <= reach {
+        field(integers::round(n, d));
+        last(Denominator::new(d).round_small(n));
+    } else {
+        last(integers::round(n, d));
+    }
 }
