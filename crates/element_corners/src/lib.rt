@@ -4,8 +4,8 @@ pub mod lengths;
 ghost use mathlib.Core.Path.{_≡_};
 ghost use Rattle.integers.specs.Within.{_within_};
 ghost use Rattle.element_sibson.specs.Element.{cornerNumbers, swap, negateX, negateY, exchanged, topDown, leftRight};
-ghost use Rattle.element_readings.specs.Bounds.{largest, AllWithin};
-ghost use Rattle.element_corners.specs.Held.{jetOf, corners, three, arrays, numbersOf, Measured, Side, cell};
+ghost use Rattle.element_cell.specs.Cell.{Side, cell};
+ghost use Rattle.element_cell.specs.Corners.{jetOf, corners, three, arrays, numbersOf, largest, AllWithin, Measured};
 use lengths::length;
 
 // From the nodes' heights in grains and slopes in grains per pixel.

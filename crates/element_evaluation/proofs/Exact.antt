@@ -11,9 +11,8 @@ use Rattle.element_sibson.specs.Fraction.{Positive, _≈_, positive, _*⁺_, wh
 use Rattle.element_sibson.specs.Cubic.{Cell, pixel, value, byR, byS, jet, bend}
 use Rattle.element_sibson.proofs.Fractions.{≈-trans, ≈-÷, ≈-·}
 use Rattle.element_sibson.proofs.Quote.{_/ₑ_, Cubicₑ, valueₑ, equal}
-use Rattle.element_readings.specs.Bounds.{listed}
+use Rattle.element_cell.specs.Coefficients.{listed, halves}
 use Rattle.element_readings.specs.Reading.{tiltX, tiltY, bendXX, bendXY, bendYY}
-use Rattle.element_turnings.specs.Doubled.{halves}
 use Rattle.element_row_cubic.proofs.Heights.{rₑ, sₑ, offset, rounded-over}
 use Rattle.element_evaluation.specs.LowDegree.{scaledOf, linearAt, quadraticAt}
 

@@ -13,7 +13,8 @@ use Rattle.element_sibson.proofs.Jets.{_≈ₚ_, jet-at, ≋-trans}
 use Rattle.element_sibson.proofs.Covers.{Inside, inside, test}
 use Rattle.element_sibson.proofs.Exists.{numbers, nodes}
 use Rattle.element_readings.specs.Reading.{level, tiltX, tiltY}
-use Rattle.element_readings.specs.Bounds.{IsAt, AtCorners}
+use Rattle.element_readings.specs.CornerWeights.{IsAt}
+use Rattle.element_readings.specs.AtCorners.{AtCorners}
 use Rattle.element_readings.proofs.Rounded.{rounded-whole}
 
 -- ---- a triangle holds the same points, however they are written

@@ -11,8 +11,10 @@ use Rattle.element_sibson.specs.Cubic.{Cell, Point, pixel, Cubic, value, byR, b
 use Rattle.element_sibson.specs.Piece.{Piece, InCell}
 use Rattle.element_sibson.specs.Element.{CornerNumbers, sibson}
 use Rattle.element_sibson.proofs.Covers.{covering}
+use Rattle.element_cell.specs.Corners.{largest, AllWithin}
+use Rattle.element_cell.specs.Coefficients.{listed, size}
 use Rattle.element_readings.specs.Reading.{rounded, level, tiltX, tiltY, bendXX, bendXY, bendYY}
-use Rattle.element_readings.specs.Bounds.{largest, AllWithin, On, listed, size, Bounds}
+use Rattle.element_readings.specs.Bounds.{On, Bounds}
 use Rattle.element_readings.proofs.WithinFractions.{within-÷, within-·, at-most}
 use Rattle.element_readings.proofs.Rounded.{rounded-within}
 use Rattle.element_readings.proofs.WeightSums.{coefficients}

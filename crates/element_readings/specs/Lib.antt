@@ -1,3 +1,6 @@
 pub mod Reading
 pub mod Bounds
+pub mod WeightSums
+pub mod CornerWeights
+pub mod AtCorners
 pub mod Examples

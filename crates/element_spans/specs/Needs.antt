@@ -6,13 +6,13 @@ use Rattle.integers.specs.Within.{_within_}
 use Rattle.integers.specs.Round.{round}
 use Rattle.integers.specs.Constants.{Prepared}
 use Rattle.integers.specs.declared.Denominator.{Denominator}
+use Rattle.element_cell.specs.Cell.{PixelInCell}
+use Rattle.element_cell.specs.declared.Pixel.{Pixel}
 use Rattle.element_row_cubic.specs.Row.{atOffset, reach}
-use Rattle.element_evaluation.specs.Pixels.{Inside}
-use Rattle.element_evaluation.specs.declared.Pixel.{Pixel}
 
 -- a pixel of its cell, and count pixels from it on that lie in the cell, the right edge included
 pub record FitsCell (p : Pixel) (count : ℕ) : Type 0 where
-  pub inside : Inside p
+  pub inside : PixelInCell p
   pub fits : p .a + count ≤ suc (p .width)
 
 -- a numerator whose level has no more than 20 bits

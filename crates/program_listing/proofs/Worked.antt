@@ -4,8 +4,8 @@ use Rattle.integers.specs.Floor.{floorDiv}
 use Rattle.integers.specs.Round.{round}
 use Rattle.element_sibson.specs.Cubic.{value, byR, byS, jet}
 use Rattle.element_sibson.specs.Element as element
+use Rattle.element_cell.specs.Cell.{side, cell}
 use Rattle.element_readings.specs.Reading as reading
-use Rattle.element_corners.specs.Held.{side, cell}
 use Rattle.sheet_words.specs.Word.{signed}
 use Rattle.sheet_layout.specs.Format.{marked, supported, countIn, decoded, heightIn, slopeIn, nodeIn, nodeAt, heightAt, slopeXAt, slopeYAt}
 use Rattle.sheet_calls.specs.Refusals as refusals

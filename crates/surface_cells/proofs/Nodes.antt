@@ -6,12 +6,12 @@ use native.Mathlib.Nat.{add-zero}
 use lib.Dec.{lit<}
 use lib.IntN.{ℤ, pos, _*ℤ_}
 use Rattle.integers.specs.Within.{_within_}
+use Rattle.element_cell.specs.Corners.{three}
 use Rattle.sheet_words.specs.Word.{wordAt, signed}
 use Rattle.sheet_words.proofs.Replaced.{stretch-word}
 use Rattle.sheet_layout.specs.Format.{columns, rows, Node, node, decoded, nodeSize, nodeOffset, nodeBytes, nodeAt, heightAt, slopeXAt, slopeYAt}
 use Rattle.sheet_calls.specs.Refusals.{Accepted}
 use Rattle.sheet_calls.proofs.WellFormed.{accepted-laws}
-use Rattle.element_corners.specs.Held.{three}
 use Rattle.surface_of_sheet.specs.Surface.{nodeNumbers}
 
 module _ (s : List ℕ) (i j : ℕ) where

@@ -2,9 +2,10 @@
 ghost use mathlib.Core.Path.{_≡_};
 ghost use Prim.Native.Nat.{_<_};
 ghost use Rattle.element_sibson.specs.Element.{cornerNumbers};
+ghost use Rattle.element_cell.specs.Cell.{Side, cell};
+ghost use Rattle.element_cell.specs.Corners.{three, arrays};
 ghost use Rattle.sheet_layout.specs.Format.{columns, rows};
 ghost use Rattle.sheet_calls.specs.Refusals.{Accepted};
-ghost use Rattle.element_corners.specs.Held.{three, arrays, Side, cell};
 ghost use Rattle.surface_of_sheet.specs.Place.{HasCell};
 ghost use Rattle.surface_of_sheet.specs.Surface.{nodeNumbers, nodesOf};
 use sheet_checking::node_offset;

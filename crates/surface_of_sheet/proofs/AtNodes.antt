@@ -11,7 +11,7 @@ use Rattle.element_sibson.specs.Piece.{triangle, Corner, leftTop, rightTop, lef
 use Rattle.element_sibson.specs.Cubic.{jet, _≋_}
 use Rattle.element_sibson.specs.Theorems.{wholes}
 use Rattle.element_sibson.proofs.Covers.{covering}
-use Rattle.element_readings.specs.Bounds.{IsAt}
+use Rattle.element_readings.specs.CornerWeights.{IsAt}
 use Rattle.element_readings.specs.Reading as reading
 use Rattle.element_readings.proofs.AtCorners.{at-node, at-corners}
 use Rattle.element_readings.proofs.Rounded.{rounded-whole}

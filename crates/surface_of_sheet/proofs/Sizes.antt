@@ -6,7 +6,8 @@ use lib.Dec.{lit≤}
 use lib.IntN.{ℤ, natAbs}
 use Rattle.element_sibson.specs.Cubic.{Cell}
 use Rattle.element_sibson.specs.Element.{CornerNumbers, cornerNumbers, element}
-use Rattle.element_readings.specs.Bounds.{largest, AllWithin, On}
+use Rattle.element_cell.specs.Corners.{largest, AllWithin}
+use Rattle.element_readings.specs.Bounds.{On}
 use Rattle.element_readings.proofs.Bounds.{bounds}
 use Rattle.sheet_calls.specs.Refusals.{Accepted}
 use Rattle.sheet_calls.specs.WellFormed.{Inside}

@@ -12,10 +12,10 @@ use Rattle.element_sibson.proofs.Fractions.{≈-refl}
 use Rattle.element_sibson.proofs.Jets.{≋-trans}
 use Rattle.element_sibson.proofs.Covers.{covering}
 use Rattle.element_sibson.proofs.Unique.{existence}
+use Rattle.element_cell.specs.Cell.{cell}
 use Rattle.element_readings.specs.Reading as reading
 use Rattle.element_readings.proofs.Bounds.{bounds}
 use Rattle.element_readings.proofs.Rounded.{rounded-≈}
-use Rattle.element_corners.specs.Held.{cell}
 use Rattle.sheet_layout.specs.Format.{columns, rows, lineX, lineY}
 use Rattle.sheet_calls.specs.Refusals.{Accepted}
 use Rattle.surface_of_sheet.specs.Place.{cellOf, Place, pointAt, columnAt, rowAt, place, seen, touches}

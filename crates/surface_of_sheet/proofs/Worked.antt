@@ -10,8 +10,8 @@ use Rattle.integers.specs.Round.{round}
 use Rattle.element_sibson.specs.Cubic.{value, byR, byS, jet, bend}
 use Rattle.element_sibson.specs.Piece.{left}
 use Rattle.element_sibson.specs.Element.{cornerNumbers, inOrder, weights, weighed, halved, transposed, flipped, mirrored, swap, negateX, negateY, exchanged, topDown, leftRight, onTop, onLeft, sibson, element}
+use Rattle.element_cell.specs.Cell.{side, cell}
 use Rattle.element_readings.specs.Reading as reading
-use Rattle.element_corners.specs.Held.{side, cell}
 use Rattle.sheet_words.specs.Word.{signed}
 use Rattle.sheet_layout.specs.Format.{marked, supported, countIn, decoded, heightIn, slopeIn, nodeIn, nodeAt, heightAt, slopeXAt, slopeYAt}
 use Rattle.sheet_calls.specs.Refusals as refusals

@@ -4,10 +4,10 @@ use mathlib.Core.List.{List}
 use mathlib.Core.Bool.{Bool, _||_}
 use lib.Dec.{ltb}
 use lib.ListN.{length}
+use Rattle.element_cell.specs.Pieces.{named}
 use Rattle.sheet_words.specs.Word.{wordAt}
 use Rattle.sheet_layout.specs.Format.{lineX, lineY}
 use Rattle.sheet_calls.specs.WellFormed.{Rising}
-use Rattle.element_pieces.specs.Parts.{named}
 use Rattle.surface_of_sheet.specs.Place as surface
 use Rattle.surface_of_sheet.specs.Place.{cellAlong}
 use Rattle.surface_places.specs.declared.Place.{Place}

@@ -9,11 +9,11 @@ use lib.ListN.{length, set}
 use Rattle.element_sibson.specs.Cubic.{pixel}
 use Rattle.element_sibson.specs.Piece.{pieceAt}
 use Rattle.element_sibson.specs.Element.{CornerNumbers, cornerNumbers, sibson, element}
+use Rattle.element_cell.specs.Cell.{cell}
+use Rattle.element_cell.specs.Corners.{corners, arrays, largest, AllWithin}
+use Rattle.element_cell.specs.declared.Pixel.{Pixel}
+use Rattle.element_cell.proofs.Arrays.{held}
 use Rattle.element_readings.specs.Reading as reading
-use Rattle.element_readings.specs.Bounds.{largest, AllWithin}
-use Rattle.element_corners.specs.Held.{corners, arrays, cell}
-use Rattle.element_corners.proofs.Arrays.{held}
-use Rattle.element_evaluation.specs.declared.Pixel.{Pixel}
 use Rattle.sheet_layout.specs.Format.{lineX}
 use Rattle.surface_of_sheet.specs.Place.{cellOf, place}
 use Rattle.surface_of_sheet.specs.Surface.{nodesOf, setOf, levelAt, level}

@@ -9,8 +9,8 @@ use mir.Syntax.{w64}
 use Rattle.integers.specs.Ratio.{Ratio}
 use Rattle.integers.specs.Round.{round}
 use Rattle.integers.proofs.Operand.{Operand, returned, unchanged}
-use Rattle.element_turnings.specs.Doubled.{halves}
-use Rattle.element_evaluation.specs.Pixels.{cellOf}
+use Rattle.element_cell.specs.Cell.{pixelCell}
+use Rattle.element_cell.specs.Coefficients.{halves}
 use Rattle.element_row_cubic.specs.Row.{alongRow, atOffset, reach}
 use Rattle.element_row_cubic.proofs.Denominators.{denominates}
 use Rattle.element_row_cubic.proofs.Horner.{at-offset-within}
@@ -21,7 +21,7 @@ use Rattle.element_evaluation.proofs.level.Tie as tie
 
 -- the row's cubic
 abbrev along : tie.Start → List ℤ
-along s = let p = s .args .p in alongRow (cellOf p) (halves (s .args .k)) (p .b)
+along s = let p = s .args .p in alongRow (pixelCell p) (halves (s .args .k)) (p .b)
 
 reached : (s : tie.Start) → reach (along s) ≤ 2 ^ 62
 reached s = let i = s .pre .1 in row-reach (s .pre .0) (i .width) (i .height) (i .down)
@@ -48,7 +48,7 @@ round-requires c κs = rw (n (c .before) .reads, d c .reads) (ratio c)
 returns : tie.Need-returns
 unfolding halves
 returns c = let e = c .before in let m = e .before in let s = m .before .before in let p = s .args .p in
-    unchanged w64 (c .round .ok) ∙ c .round .ensures ∙ (λ i. round (n m .reads i) (natAbs (d e .reads i))) ∙ sym (rows .levels (cellOf p) (halves (s .args .k)) (p .a) (p .b))
+    unchanged w64 (c .round .ok) ∙ c .round .ensures ∙ (λ i. round (n m .reads i) (natAbs (d e .reads i))) ∙ sym (rows .levels (pixelCell p) (halves (s .args .k)) (p .a) (p .b))
 
 pub level-spec : {M : Type 1} → statement M
 level-spec = tie.close (tie.spec (λ c κs. search needs) at-offset-requires (λ c κs. search needs) round-requires returns)

@@ -12,11 +12,11 @@ use Rattle.integers.specs.Round.{round}
 use Rattle.integers.specs.Constants.{constants}
 use Rattle.integers.proofs.Operand.{Operand, returned}
 use Rattle.element_sibson.specs.Piece.{left, right}
-use Rattle.element_corners.specs.Held.{corners}
-use Rattle.element_pieces.specs.Parts.{pieceOf}
+use Rattle.element_cell.specs.Corners.{corners}
+use Rattle.element_cell.specs.Pieces.{pieceOf}
+use Rattle.element_cell.specs.declared.Pixel.{Pixel}
 use Rattle.element_row_cubic.specs.Row.{atOffset}
 use Rattle.element_row_cubic.proofs.Denominators.{denominates}
-use Rattle.element_evaluation.specs.declared.Pixel.{Pixel}
 use Rattle.element_spans.specs.Span.{toRight, cellLevel, laid}
 use Rattle.element_spans.specs.Ends.{middleOf, endsOf}
 use Rattle.element_spans.specs.Needs.{Levels}

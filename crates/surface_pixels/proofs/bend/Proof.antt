@@ -4,20 +4,20 @@ use mathlib.Core.List.{[], _∷_}
 use borrow.Author.Needs.{needs}
 use mir.Syntax.{w64}
 use Rattle.integers.proofs.Operand.{unchanged}
+use Rattle.element_cell.specs.Cell.{pixelCell, pixelPoint}
+use Rattle.element_cell.specs.Coefficients.{halves}
 use Rattle.element_readings.specs.Reading.{bendXX, bendXY, bendYY}
-use Rattle.element_turnings.specs.Doubled.{halves}
-use Rattle.element_evaluation.specs.Pixels.{cellOf, pointOf}
 use Rattle.surface_answers.specs.Answers.{answered, Small}
 use Rattle.surface_pixels.proofs.bend.Statement.{statement}
 use Rattle.surface_pixels.proofs.bend.Tie as tie
 
-is-xx : (c : tie.After-new) → let a = c .before .before .before .before .args in c .new .result .xx ≡ bendXX (cellOf (a .p)) (halves (a .k)) (pointOf (a .p))
+is-xx : (c : tie.After-new) → let a = c .before .before .before .before .args in c .new .result .xx ≡ bendXX (pixelCell (a .p)) (halves (a .k)) (pixelPoint (a .p))
 is-xx c = let d = c .before .before .before in c .new .ensures .0 ∙ unchanged w64 (d .bend-xx .ok) ∙ d .bend-xx .ensures
 
-is-xy : (c : tie.After-new) → let a = c .before .before .before .before .args in c .new .result .xy ≡ bendXY (cellOf (a .p)) (halves (a .k)) (pointOf (a .p))
+is-xy : (c : tie.After-new) → let a = c .before .before .before .before .args in c .new .result .xy ≡ bendXY (pixelCell (a .p)) (halves (a .k)) (pixelPoint (a .p))
 is-xy c = let d = c .before .before in c .new .ensures .1 ∙ unchanged w64 (d .bend-xy .ok) ∙ d .bend-xy .ensures
 
-is-yy : (c : tie.After-new) → let a = c .before .before .before .before .args in c .new .result .yy ≡ bendYY (cellOf (a .p)) (halves (a .k)) (pointOf (a .p))
+is-yy : (c : tie.After-new) → let a = c .before .before .before .before .args in c .new .result .yy ≡ bendYY (pixelCell (a .p)) (halves (a .k)) (pixelPoint (a .p))
 is-yy c = let d = c .before in c .new .ensures .2 ∙ unchanged w64 (d .bend-yy .ok) ∙ d .bend-yy .ensures
 
 answer-requires : tie.Need-answer-requires

@@ -4,14 +4,14 @@ use mathlib.Core.List.{[], _∷_}
 use borrow.Author.Needs.{needs}
 use mir.Syntax.{w64}
 use Rattle.integers.proofs.Operand.{unchanged}
+use Rattle.element_cell.specs.Cell.{pixelCell, pixelPoint}
+use Rattle.element_cell.specs.Coefficients.{halves}
 use Rattle.element_readings.specs.Reading.{level}
-use Rattle.element_turnings.specs.Doubled.{halves}
-use Rattle.element_evaluation.specs.Pixels.{cellOf, pointOf}
 use Rattle.surface_answers.specs.Answers.{answered, Small}
 use Rattle.surface_pixels.proofs.level.Statement.{statement}
 use Rattle.surface_pixels.proofs.level.Tie as tie
 
-is : (c : tie.After-new) → let a = c .before .before .args in c .new .result .height ≡ level (cellOf (a .p)) (halves (a .k)) (pointOf (a .p))
+is : (c : tie.After-new) → let a = c .before .before .args in c .new .result .height ≡ level (pixelCell (a .p)) (halves (a .k)) (pixelPoint (a .p))
 is c = c .new .ensures ∙ unchanged w64 (c .before .level .ok) ∙ c .before .level .ensures
 
 answer-requires : tie.Need-answer-requires

@@ -4,17 +4,17 @@ use mathlib.Core.List.{[], _∷_}
 use borrow.Author.Needs.{needs}
 use mir.Syntax.{w64}
 use Rattle.integers.proofs.Operand.{unchanged}
+use Rattle.element_cell.specs.Cell.{pixelCell, pixelPoint}
+use Rattle.element_cell.specs.Coefficients.{halves}
 use Rattle.element_readings.specs.Reading.{tiltX, tiltY}
-use Rattle.element_turnings.specs.Doubled.{halves}
-use Rattle.element_evaluation.specs.Pixels.{cellOf, pointOf}
 use Rattle.surface_answers.specs.Answers.{answered, Small}
 use Rattle.surface_pixels.proofs.tilt.Statement.{statement}
 use Rattle.surface_pixels.proofs.tilt.Tie as tie
 
-is-x : (c : tie.After-new) → let a = c .before .before .before .args in c .new .result .x ≡ tiltX (cellOf (a .p)) (halves (a .k)) (pointOf (a .p))
+is-x : (c : tie.After-new) → let a = c .before .before .before .args in c .new .result .x ≡ tiltX (pixelCell (a .p)) (halves (a .k)) (pixelPoint (a .p))
 is-x c = c .new .ensures .0 ∙ unchanged w64 (c .before .before .tilt-x .ok) ∙ c .before .before .tilt-x .ensures
 
-is-y : (c : tie.After-new) → let a = c .before .before .before .args in c .new .result .y ≡ tiltY (cellOf (a .p)) (halves (a .k)) (pointOf (a .p))
+is-y : (c : tie.After-new) → let a = c .before .before .before .args in c .new .result .y ≡ tiltY (pixelCell (a .p)) (halves (a .k)) (pixelPoint (a .p))
 is-y c = c .new .ensures .1 ∙ unchanged w64 (c .before .tilt-y .ok) ∙ c .before .tilt-y .ensures
 
 answer-requires : tie.Need-answer-requires

@@ -14,14 +14,14 @@ on-axis-requires-2 c κs =
     let p = c .before .before .before .before .pre in
     rw (c .before .rows .ensures .0, c .before .before .columns .ensures .0) (y-axis _ (p .0), y-between _ (p .0) _ _ (p .1))
 
-piece-requires : tie.Need-piece-requires
-piece-requires c κs =
+piece-at-requires : tie.Need-piece-at-requires
+piece-at-requires c κs =
     let p = c .before .before .before .before .before .pre in
     rw (c .before .on-axis .ensures, c .on-axis2 .ensures, c .before .before .before .columns .ensures .0, c .before .before .rows .ensures .0) (pixel-inside _ (p .0) _ _ (p .1))
 
 returns : tie.Need-returns
 returns c =
-    rw (c .piece .ensures, c .before .before .on-axis .ensures, c .before .on-axis2 .ensures, c .before .before .before .before .columns .ensures .0, c .before .before .before .rows .ensures .0)
+    rw (c .piece-at .ensures, c .before .before .on-axis .ensures, c .before .on-axis2 .ensures, c .before .before .before .before .columns .ensures .0, c .before .before .before .rows .ensures .0)
     (place-is _ _ _)
 
 pub find-spec : {M : Type 1} → statement M
@@ -34,5 +34,5 @@ find-spec =
     (λ c. search needs)
     on-axis-requires
     on-axis-requires-2
-    piece-requires
+    piece-at-requires
     returns)

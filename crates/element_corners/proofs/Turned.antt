@@ -1,29 +1,12 @@
--- Corner numbers in arrays: what is written is read back, and turned corner numbers keep the bound, and nodes give it. Assumes nothing.
-use mathlib.Core.Path.{_≡_, refl, _∙_, ap, subst⁻¹}
-use mathlib.Core.List.{List}
+-- Turned corner numbers keep the bound. Assumes nothing.
 use Prim.Native.Nat.{ℕ}
-use lib.IntN.{ℤ, pos}
+use lib.IntN.{ℤ}
 use Rattle.integers.specs.Within.{_within_}
-use Rattle.integers.proofs.Bounds.{within-neg, within-*}
+use Rattle.integers.proofs.Bounds.{within-neg}
 use Rattle.element_sibson.specs.Cubic.{Jet}
 use Rattle.element_sibson.specs.Piece.{Corner, leftTop, rightTop, leftBottom, rightBottom}
-use Rattle.element_sibson.specs.Element.{Nodes, CornerNumbers, cornerNumbers, swap, negateX, negateY, exchanged, topDown, leftRight}
-use Rattle.element_readings.specs.Bounds.{largest, AllWithin}
-use Rattle.element_corners.specs.Held.{jetOf, corners, three, arrays, Measured, Side, side, cell}
-use Rattle.element_corners.proofs.Sides.{length-within, side-is}
-
-back : (n : CornerNumbers) (c : Corner) → corners (arrays n) c ≡ n c
-unfolding corners arrays jetOf three
-back n leftTop = refl
-back n rightTop = refl
-back n leftBottom = refl
-back n rightBottom = refl
-
--- what arrays hold that a contract gives
-pub held : {r : List (List ℤ)} (n : CornerNumbers) → r ≡ arrays n → corners r ≡ n
-held n e = ap corners e ∙ (λ i c. back n c i)
-
--- ---- bounds
+use Rattle.element_sibson.specs.Element.{CornerNumbers, swap, negateX, negateY, exchanged, topDown, leftRight}
+use Rattle.element_cell.specs.Corners.{AllWithin}
 
 -- the three numbers of a corner
 abbrev JetWithin : ℕ → Jet ℤ → Type 0
@@ -74,11 +57,3 @@ module _ {N : ℕ} {n : CornerNumbers} (h : AllWithin N n) where
       at rightTop = negatedX leftTop
       at leftBottom = negatedX rightBottom
       at rightBottom = negatedX leftBottom
-
--- 64 pixels times a slope of 4,095
-pub measured-within : {w h : ℕ} {m : Nodes} → Measured m → Side w → Side h → AllWithin largest (cornerNumbers (cell w h) m)
-unfolding cornerNumbers cell
-measured-within {w} {h} {m} k u v = record { heights = k .heights; xSlopes = λ c. within-* (sided u) (k .xSlopes c); ySlopes = λ c. within-* (sided v) (k .ySlopes c) }
-  where
-    sided : {l : ℕ} → Side l → pos (side l .number) within 64
-    sided s = subst⁻¹ (λ (l : ℕ). pos l within 64) (side-is s) (length-within (s .most))

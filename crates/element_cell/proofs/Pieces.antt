@@ -15,10 +15,9 @@ use Rattle.element_sibson.specs.Cubic.{Cell, Point, pixel}
 use Rattle.element_sibson.specs.Piece.{top, right, bottom, left, triangle, pieceAt}
 use Rattle.element_sibson.proofs.Quote.{Quotient, wholeₑ, complementₑ, _÷ₑ_, _≤ₑ_}
 use Rattle.element_sibson.proofs.Covers.{inside, test}
-use Rattle.element_corners.specs.Held.{side, cell}
-use Rattle.element_corners.proofs.Sides.{side-is}
-use Rattle.element_evaluation.specs.Pixels.{cellOf, pointOf, Inside}
-use Rattle.element_evaluation.specs.declared.Pixel.{Pixel}
+use Rattle.element_cell.specs.Cell.{side, cell, pixelCell, pixelPoint, PixelInCell}
+use Rattle.element_cell.proofs.Sides.{side-is}
+use Rattle.element_cell.specs.declared.Pixel.{Pixel}
 
 -- ---- tests
 
@@ -114,20 +113,20 @@ module _ (C : Cell) (a b : ℕ) where
 
 -- ---- of a pixel as the code holds it
 
-module _ (p : Pixel) (i : Inside p) where
+module _ (p : Pixel) (i : PixelInCell p) where
   -- what holds of the sides as numbers holds of the cell's
-  sized : (Q : ℕ → ℕ → Type 0) → Q (p .width) (p .height) → Q (cellOf p .W .number) (cellOf p .H .number)
+  sized : (Q : ℕ → ℕ → Type 0) → Q (p .width) (p .height) → Q (pixelCell p .W .number) (pixelCell p .H .number)
   unfolding cell
   sized Q h = subst⁻¹ (λ w. Q w (side (p .height) .number)) (side-is (i .width)) (subst⁻¹ (λ l. Q (p .width) l) (side-is (i .height)) h)
 
-  pub at-top : p .b * p .width ≤ p .a * p .height → p .a * p .height + p .b * p .width ≤ p .width * p .height → top ≡ pieceAt (pointOf p)
-  at-top h k = sym (in-top (cellOf p) (p .a) (p .b) (sized (λ w l. p .b * w ≤ p .a * l) h) (sized (λ w l. p .a * l + p .b * w ≤ w * l) k))
+  pub at-top : p .b * p .width ≤ p .a * p .height → p .a * p .height + p .b * p .width ≤ p .width * p .height → top ≡ pieceAt (pixelPoint p)
+  at-top h k = sym (in-top (pixelCell p) (p .a) (p .b) (sized (λ w l. p .b * w ≤ p .a * l) h) (sized (λ w l. p .a * l + p .b * w ≤ w * l) k))
 
-  pub at-right : p .b * p .width ≤ p .a * p .height → p .width * p .height < p .a * p .height + p .b * p .width → right ≡ pieceAt (pointOf p)
-  at-right h k = sym (in-right (cellOf p) (p .a) (p .b) (sized (λ w l. p .b * w ≤ p .a * l) h) (sized (λ w l. w * l < p .a * l + p .b * w) k))
+  pub at-right : p .b * p .width ≤ p .a * p .height → p .width * p .height < p .a * p .height + p .b * p .width → right ≡ pieceAt (pixelPoint p)
+  at-right h k = sym (in-right (pixelCell p) (p .a) (p .b) (sized (λ w l. p .b * w ≤ p .a * l) h) (sized (λ w l. w * l < p .a * l + p .b * w) k))
 
-  pub at-bottom : p .a * p .height < p .b * p .width → p .width * p .height ≤ p .a * p .height + p .b * p .width → bottom ≡ pieceAt (pointOf p)
-  at-bottom h k = sym (in-bottom (cellOf p) (p .a) (p .b) (sized (λ w l. p .a * l < p .b * w) h) (sized (λ w l. w * l ≤ p .a * l + p .b * w) k))
+  pub at-bottom : p .a * p .height < p .b * p .width → p .width * p .height ≤ p .a * p .height + p .b * p .width → bottom ≡ pieceAt (pixelPoint p)
+  at-bottom h k = sym (in-bottom (pixelCell p) (p .a) (p .b) (sized (λ w l. p .a * l < p .b * w) h) (sized (λ w l. w * l ≤ p .a * l + p .b * w) k))
 
-  pub at-left : p .a * p .height < p .b * p .width → p .a * p .height + p .b * p .width < p .width * p .height → left ≡ pieceAt (pointOf p)
-  at-left h k = sym (in-left (cellOf p) (p .a) (p .b) (sized (λ w l. p .a * l < p .b * w) h) (sized (λ w l. p .a * l + p .b * w < w * l) k))
+  pub at-left : p .a * p .height < p .b * p .width → p .a * p .height + p .b * p .width < p .width * p .height → left ≡ pieceAt (pixelPoint p)
+  at-left h k = sym (in-left (pixelCell p) (p .a) (p .b) (sized (λ w l. p .a * l < p .b * w) h) (sized (λ w l. p .a * l + p .b * w < w * l) k))

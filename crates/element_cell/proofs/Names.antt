@@ -1,7 +1,7 @@
 -- A piece is told by the code's name of it. Assumes nothing.
 use mathlib.Core.Path.{_≡_, refl}
 use Rattle.element_sibson.specs.Piece.{Piece, top, right, bottom, left}
-use Rattle.element_pieces.specs.Parts.{pieceOf, named}
+use Rattle.element_cell.specs.Pieces.{pieceOf, named}
 
 pub piece-back : (k : Piece) → pieceOf (named k) ≡ k
 unfolding pieceOf named

@@ -5,7 +5,7 @@ use native.Mathlib.Omega.{arith}
 use lib.IntN.{pos}
 use Rattle.integers.specs.Within.{_within_}
 use Rattle.integers.proofs.Bounds.{is-within, within-*}
-use Rattle.element_corners.specs.Held.{Side, side}
+use Rattle.element_cell.specs.Cell.{Side, side}
 
 pub length-within : {l : ℕ} → l ≤ 64 → pos l within 64
 length-within {l} h = is-within (pos l) h

@@ -1,12 +1,12 @@
--- `surface_places::piece` meets its contract: no product exceeds 64 · 64. Assumes nothing.
+-- `element_cell::piece_at` meets its contract: no product exceeds 64 · 64. Assumes nothing.
 use Prim.Native.Nat.{_*_, _≤_}
 use mathlib.Core.Path.{ap}
 use native.Mathlib.Nat.{le-trans, mul-le-mul}
 use native.Mathlib.Omega.{arith}
-use Rattle.element_pieces.specs.Parts.{named}
-use Rattle.surface_places.proofs.Pieces.{at-top, at-right, at-bottom, at-left}
-use Rattle.surface_places.proofs.piece.Statement.{statement}
-use Rattle.surface_places.proofs.piece.Tie as tie
+use Rattle.element_cell.specs.Pieces.{named}
+use Rattle.element_cell.proofs.Pieces.{at-top, at-right, at-bottom, at-left}
+use Rattle.element_cell.proofs.piece_at.Statement.{statement}
+use Rattle.element_cell.proofs.piece_at.Tie as tie
 
 products : (s : tie.Start) → let p = s .args .p in (p .a * p .height ≤ 4096) × (p .b * p .width ≤ 4096) × (p .width * p .height ≤ 4096)
 products s = let i = s .pre in
@@ -28,8 +28,8 @@ returns-4 : tie.Need-returns-4
 unfolding named
 returns-4 c = ap named (at-left _ (c .before .before .before .before .before .pre) (c .before .if1 .left) (c .if3 .left))
 
-pub piece-spec : {M : Type 1} → statement M
-piece-spec =
+pub piece-at-spec : {M : Type 1} → statement M
+piece-at-spec =
     tie.close
     (tie.spec
     (λ c. record { fits = omega (arith, products (c .before)) })

@@ -1,15 +1,21 @@
--- How the code holds a cell's corner numbers: four arrays of three, in the order of the corners. And the cells that it takes. Assumes nothing.
+-- A cell's corner numbers: the order of the corners, how the code holds the twelve, four arrays of three, and how large they are. Assumes nothing.
 use mathlib.Core.List.{List, [], _∷_}
-use Prim.Native.Nat.{ℕ, zero, suc, _≤_}
-use native.Mathlib.Omega.{arith}
+use Prim.Native.Nat.{ℕ}
 use lib.IntN.{ℤ, pos}
 use lib.ListN.{getD}
 use Rattle.integers.specs.Within.{_within_}
-use Rattle.element_sibson.specs.Fraction.{Positive, positive}
 use Rattle.element_sibson.specs.Cubic.{Cell, Jet}
 use Rattle.element_sibson.specs.Piece.{Corner, leftTop, rightTop, leftBottom, rightBottom}
-use Rattle.element_sibson.specs.Element.{Nodes, cornerNumbers}
-use Rattle.element_readings.specs.Bounds.{largest, place}
+use Rattle.element_sibson.specs.Element.{Nodes, CornerNumbers, cornerNumbers}
+
+-- ---- how the code holds them
+
+-- a corner's place in the order of 01: 00, 10, 01, 11
+abbrev pub cornerIndex : Corner → ℕ
+cornerIndex leftTop = 0
+cornerIndex rightTop = 1
+cornerIndex leftBottom = 2
+cornerIndex rightBottom = 3
 
 -- a corner's three: height, x-slope, y-slope
 unfoldable pub jetOf : List ℤ → Jet ℤ
@@ -17,7 +23,7 @@ jetOf l = record { height = getD l 0 (pos 0); xSlope = getD l 1 (pos 0); ySlope 
 
 -- the twelve that four arrays hold: corner c of them
 unfoldable pub corners : List (List ℤ) → Corner → Jet ℤ
-corners n c = jetOf (getD n (place c) [])
+corners n c = jetOf (getD n (cornerIndex c) [])
 
 -- and back: three numbers as an array, and the four arrays
 unfoldable pub three : Jet ℤ → List ℤ
@@ -26,26 +32,24 @@ three j = j .height ∷ j .xSlope ∷ j .ySlope ∷ []
 unfoldable pub arrays : (Corner → Jet ℤ) → List (List ℤ)
 arrays n = three (n leftTop) ∷ three (n rightTop) ∷ three (n leftBottom) ∷ three (n rightBottom) ∷ []
 
+-- the corner numbers of one node, at whichever corner it is
+unfoldable pub numbersOf : Cell → Jet ℤ → Jet ℤ
+numbersOf C m = cornerNumbers C (λ c. m) leftTop
+
+-- ---- how large they are
+
+-- the largest corner number: 4,095 steps of 64 grains, or 64 pixels times a slope of 4,095
+abbrev pub largest : ℕ
+largest = 262080
+
+-- every corner number is within N
+pub record AllWithin (N : ℕ) (n : CornerNumbers) : Type 0 where
+  pub heights : (c : Corner) → n c .height within N
+  pub xSlopes : (c : Corner) → n c .xSlope within N
+  pub ySlopes : (c : Corner) → n c .ySlope within N
+
 -- nodes as sheets have them: heights within 4,095 steps of 64 grains, slopes within 4,095 grains per pixel
 pub record Measured (m : Nodes) : Type 0 where
   pub heights : (c : Corner) → m c .height within largest
   pub xSlopes : (c : Corner) → m c .xSlope within 4095
   pub ySlopes : (c : Corner) → m c .ySlope within 4095
-
--- the corner numbers of one node, at whichever corner it is
-unfoldable pub numbersOf : Cell → Jet ℤ → Jet ℤ
-numbersOf C m = cornerNumbers C (λ c. m) leftTop
-
--- the width or height of a cell, from 1 to 64 pixels
-pub record Side (l : ℕ) : Type 0 where
-  pub least : 1 ≤ l
-  pub most : l ≤ 64
-
--- as a number above 0; 0, which is no side, counts as 1
-unfoldable pub side : ℕ → Positive
-side zero = positive 1 tt
-side (suc l) = record { number = suc l; above = omega arith }
-
--- the cell w pixels wide and h high
-unfoldable pub cell : ℕ → ℕ → Cell
-cell w h = record { W = side w; H = side h }
