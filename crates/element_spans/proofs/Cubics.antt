@@ -26,7 +26,7 @@ use Rattle.element_row_cubic.proofs.Denominators.{denominates}
 use Rattle.element_row_cubic.proofs.Heights.{rows}
 use Rattle.element_row_cubic.proofs.RowBounds.{row-reach}
 use Rattle.element_spans.specs.Span.{toRight, pixelPiece, cellLevel}
-use Rattle.element_spans.specs.Needs.{FitsCell, Levels}
+use Rattle.element_spans.specs.Needs.{FitsCell, FitsAlong}
 use Rattle.element_spans.proofs.InRow.{inside-right}
 
 -- a level lies strictly between −2²⁰ and 2²⁰
@@ -60,7 +60,7 @@ module _ {n : CornerNumbers} {p : Pixel} {count : ℕ} {q : Piece} {cubic : List
       ∙ ap (λ f. level (pixelCell p) f (pixelPoint (toRight p (from + k)))) (joined .back n q)
       ∙ ap (λ q. level (pixelCell p) (sibson n q) (pixelPoint (toRight p (from + k)))) (sym (s .pieces k l))
 
-  pub levels-fit : Levels cubic (p .a + from) size d
+  pub levels-fit : FitsAlong cubic (p .a + from) size d
   levels-fit k l = let i = fit .inside in let h = inside-right p {k = from + k} fit (omega (arith, s .fits)) in record {
     reached = subst⁻¹ (λ c. reach c ≤ 2 ^ 62) doubled (row-reach (piece-sized n all q refl) (i .width) (i .height) (i .down));
     near = omega (arith, s .fits, fit .fits, i .width .most);

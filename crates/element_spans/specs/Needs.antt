@@ -16,16 +16,16 @@ pub record FitsCell (p : Pixel) (count : ℕ) : Type 0 where
   pub fits : p .a + count ≤ suc (p .width)
 
 -- a numerator whose level has no more than 20 bits
-pub record Small (n : ℤ) (d : Denominator) : Type 0 where
+pub record LevelFits (n : ℤ) (d : Denominator) : Type 0 where
   pub prepared : Prepared d
   pub small : round n (natAbs (d .value)) within (2 ^ 20)
 
 -- at an offset the cubic stays within 64 bits, and the level within 20
-pub record Level (cubic : List ℤ) (offset : ℕ) (d : Denominator) : Type 0 where
+pub record FitsAt (cubic : List ℤ) (offset : ℕ) (d : Denominator) : Type 0 where
   pub reached : reach cubic ≤ 2 ^ 62
   pub near : offset ≤ 64
-  pub level : Small (atOffset cubic offset) d
+  pub level : LevelFits (atOffset cubic offset) d
 
 -- and so at count offsets
-abbrev pub Levels : List ℤ → ℕ → ℕ → Denominator → Type 0
-Levels cubic offset count d = (k : ℕ) → k < count → Level cubic (offset + k) d
+abbrev pub FitsAlong : List ℤ → ℕ → ℕ → Denominator → Type 0
+FitsAlong cubic offset count d = (k : ℕ) → k < count → FitsAt cubic (offset + k) d

@@ -13,7 +13,7 @@ ghost use Rattle.element_cell.specs.Pieces.{pieceOf};
 ghost use Rattle.element_row_cubic.specs.Row.{alongRow, atOffset};
 ghost use Rattle.element_spans.specs.Span.{toRight, cellLevel, ceiling, laid};
 ghost use Rattle.element_spans.specs.Ends.{upperHalf, middleOf, endsOf};
-ghost use Rattle.element_spans.specs.Needs.{FitsCell, Small, Levels};
+ghost use Rattle.element_spans.specs.Needs.{FitsCell, LevelFits, FitsAlong};
 use element_cell::Piece;
 use element_cell::Pixel;
 use integers::Denominator;
@@ -127,7 +127,7 @@ fn fill_levels(
     offset: usize,
     d: Denominator,
 )
-    requires { ⌜ Levels cubic offset count d × (at + count ≤ length (now row)) ⌝ }
+    requires { ⌜ FitsAlong cubic offset count d × (at + count ≤ length (now row)) ⌝ }
     ensures { λ _. ⌜ now (row .exit) ≡ laid (λ k. round (atOffset cubic (offset + k)) (natAbs (d .value))) at count (now (row .entry)) ⌝ }
 {
     if count == 0 {
@@ -144,7 +144,7 @@ fn fill_levels(
 
 // One level: a numerator over the denominator.
 fn level(n: i64, d: Denominator) -> i32
-    requires { ⌜ Small n d ⌝ }
+    requires { ⌜ LevelFits n d ⌝ }
     ensures { λ r. ⌜ r ≡ round n (natAbs (d .value)) ⌝ }
 {
     d.round_small(n) as i32

@@ -8,7 +8,7 @@ use Rattle.element_readings.specs.Reading.{rounded, _withinℚ_}
 use Rattle.element_readings.proofs.Rounded.{half-unit}
 use Rattle.sheet_calls.specs.Refusals.{Accepted}
 use Rattle.sheet_calls.specs.WellFormed.{Inside}
-use Rattle.surface_answers.specs.Answers.{divisor, quotient, answered, Small}
+use Rattle.surface_answers.specs.Answers.{divisor, quotient, answered, FitsFloat}
 use Rattle.surface_answers.proofs.Quotients.{quotient-laws}
 use Rattle.surface_of_sheet.specs.Place.{place}
 use Rattle.surface_of_sheet.specs.Surface.{jetAt, levelAt, tiltXAt, tiltYAt, bendXXAt, bendXYAt, bendYYAt, level, tiltX, tiltY, bendXX, bendXY, bendYY}
@@ -18,7 +18,7 @@ use Rattle.surface_of_sheet.proofs.Answered.{read-is}
 use Rattle.surface_of_sheet.proofs.Runs.{run-laws}
 use Rattle.surface_of_sheet.proofs.Sizes.{level-below, small-level, small-tilts, small-bends}
 
-from-rounded : (kind : ℕ) (x : ℚ) → Small (rounded x) → HalfUnitFrom (divisor kind) (quotient (divisor kind) (rounded x)) x
+from-rounded : (kind : ℕ) (x : ℚ) → FitsFloat (rounded x) → HalfUnitFrom (divisor kind) (quotient (divisor kind) (rounded x)) x
 from-rounded kind x h = record { number = rounded x; float = quotient-laws .exact kind (rounded x) h; near = half-unit .distances x }
 
 module _ (s : List ℕ) (x y : ℕ) (accepted : Accepted s) (inside : Inside s x y) where

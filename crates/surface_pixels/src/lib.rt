@@ -6,7 +6,7 @@ ghost use Rattle.element_cell.specs.Coefficients.{halves, Sized};
 ghost use Rattle.element_readings.specs.Reading.{level, tiltX, tiltY, bendXX, bendXY, bendYY};
 ghost use Rattle.sheet_calls.specs.Refusals.{readingRefusal, Accepted};
 ghost use Rattle.sheet_calls.specs.WellFormed.{Inside};
-ghost use Rattle.surface_answers.specs.Answers.{outcome, answered, Small};
+ghost use Rattle.surface_answers.specs.Answers.{outcome, answered, FitsFloat};
 ghost use Rattle.surface_of_sheet.specs.Place.{place};
 ghost use Rattle.surface_of_sheet.specs.Surface as surface;
 ghost use Rattle.surface_of_sheet.specs.Read.{numbers, read};
@@ -103,7 +103,7 @@ fn locate(sheet: &[u8], x: u32, y: u32) -> LocatedCubic
 
 // Of the cubic with these doubled coefficients: the level, the tilt along x and y, the bend along x, mixed and along y.
 fn level(k: [i64; 10], p: Pixel) -> Answer
-    requires { ⌜ Sized k × PixelInCell p × Small (level (pixelCell p) (halves k) (pixelPoint p)) ⌝ }
+    requires { ⌜ Sized k × PixelInCell p × FitsFloat (level (pixelCell p) (halves k) (pixelPoint p)) ⌝ }
     ensures { λ r. ⌜ outcome r ≡ answered 0 (level (pixelCell p) (halves k) (pixelPoint p) ∷ []) ⌝ }
 {
     let reading = LevelReading::new(element_evaluation::level(k, p));
@@ -111,7 +111,7 @@ fn level(k: [i64; 10], p: Pixel) -> Answer
 }
 
 fn tilt(k: [i64; 10], p: Pixel) -> Answer
-    requires { ⌜ Sized k × PixelInCell p × Small (tiltX (pixelCell p) (halves k) (pixelPoint p)) × Small (tiltY (pixelCell p) (halves k) (pixelPoint p)) ⌝ }
+    requires { ⌜ Sized k × PixelInCell p × FitsFloat (tiltX (pixelCell p) (halves k) (pixelPoint p)) × FitsFloat (tiltY (pixelCell p) (halves k) (pixelPoint p)) ⌝ }
     ensures { λ r. ⌜ outcome r ≡ answered 1 (tiltX (pixelCell p) (halves k) (pixelPoint p) ∷ tiltY (pixelCell p) (halves k) (pixelPoint p) ∷ []) ⌝ }
 {
     let reading = TiltReading::new(
@@ -122,7 +122,7 @@ fn tilt(k: [i64; 10], p: Pixel) -> Answer
 }
 
 fn bend(k: [i64; 10], p: Pixel) -> Answer
-    requires { ⌜ Sized k × PixelInCell p × Small (bendXX (pixelCell p) (halves k) (pixelPoint p)) × Small (bendXY (pixelCell p) (halves k) (pixelPoint p)) × Small (bendYY (pixelCell p) (halves k) (pixelPoint p)) ⌝ }
+    requires { ⌜ Sized k × PixelInCell p × FitsFloat (bendXX (pixelCell p) (halves k) (pixelPoint p)) × FitsFloat (bendXY (pixelCell p) (halves k) (pixelPoint p)) × FitsFloat (bendYY (pixelCell p) (halves k) (pixelPoint p)) ⌝ }
     ensures { λ r. ⌜ outcome r ≡ answered 2 (bendXX (pixelCell p) (halves k) (pixelPoint p) ∷ bendXY (pixelCell p) (halves k) (pixelPoint p) ∷ bendYY (pixelCell p) (halves k) (pixelPoint p) ∷ []) ⌝ }
 {
     let reading = BendReading::new(

@@ -15,7 +15,7 @@ use Rattle.element_row_cubic.specs.Row.{atOffset}
 use Rattle.element_row_cubic.specs.Steps.{differences, stepped, Steps}
 use Rattle.element_row_cubic.proofs.Rises.{steps-on, may-step}
 use Rattle.element_spans.specs.Span.{laid}
-use Rattle.element_spans.specs.Needs.{Level}
+use Rattle.element_spans.specs.Needs.{FitsAt}
 use Rattle.element_spans.proofs.Laid.{laid-length, laid-none, laid-next, laid-all}
 use Rattle.element_spans.proofs.fill_levels.Statement.{statement}
 use Rattle.element_spans.proofs.fill_levels.Tie as tie
@@ -49,7 +49,7 @@ module _ (c : tie.At-loop Inv-loop μ-loop) where
   kept = ap length (held .1) ∙ laid-length _ _ _ _
 
 module _ (c : tie.In-loop Inv-loop μ-loop) where
-  asked : let a = start (c .before) .args in Level (a .cubic) (a .offset + c .before .loop .k) (a .d)
+  asked : let a = start (c .before) .args in FitsAt (a .cubic) (a .offset + c .before .loop .k) (a .d)
   asked = start (c .before) .pre .0 (c .before .loop .k) (c .loop-test .taken)
 
   may : Steps (c .before .loop .z)

@@ -7,7 +7,7 @@ use Rattle.integers.proofs.Operand.{unchanged}
 use Rattle.element_cell.specs.Cell.{pixelCell, pixelPoint}
 use Rattle.element_cell.specs.Coefficients.{halves}
 use Rattle.element_readings.specs.Reading.{bendXX, bendXY, bendYY}
-use Rattle.surface_answers.specs.Answers.{answered, Small}
+use Rattle.surface_answers.specs.Answers.{answered, FitsFloat}
 use Rattle.surface_pixels.proofs.bend.Statement.{statement}
 use Rattle.surface_pixels.proofs.bend.Tie as tie
 
@@ -22,7 +22,7 @@ is-yy c = let d = c .before in c .new .ensures .2 ∙ unchanged w64 (d .bend-yy 
 
 answer-requires : tie.Need-answer-requires
 answer-requires c κs =
-    let p = c .before .before .before .before .pre in (subst⁻¹ Small (is-xx c) (p .2), subst⁻¹ Small (is-xy c) (p .3), subst⁻¹ Small (is-yy c) (p .4))
+    let p = c .before .before .before .before .pre in (subst⁻¹ FitsFloat (is-xx c) (p .2), subst⁻¹ FitsFloat (is-xy c) (p .3), subst⁻¹ FitsFloat (is-yy c) (p .4))
 
 returns : tie.Need-returns
 returns c = c .answer .ensures ∙ (λ t. answered 2 (is-xx (c .before) t ∷ is-xy (c .before) t ∷ is-yy (c .before) t ∷ []))

@@ -7,7 +7,7 @@ use Rattle.integers.proofs.Operand.{unchanged}
 use Rattle.element_cell.specs.Cell.{pixelCell, pixelPoint}
 use Rattle.element_cell.specs.Coefficients.{halves}
 use Rattle.element_readings.specs.Reading.{level}
-use Rattle.surface_answers.specs.Answers.{answered, Small}
+use Rattle.surface_answers.specs.Answers.{answered, FitsFloat}
 use Rattle.surface_pixels.proofs.level.Statement.{statement}
 use Rattle.surface_pixels.proofs.level.Tie as tie
 
@@ -15,7 +15,7 @@ is : (c : tie.After-new) → let a = c .before .before .args in c .new .result .
 is c = c .new .ensures ∙ unchanged w64 (c .before .level .ok) ∙ c .before .level .ensures
 
 answer-requires : tie.Need-answer-requires
-answer-requires c κs = subst⁻¹ Small (is c) (c .before .before .pre .2)
+answer-requires c κs = subst⁻¹ FitsFloat (is c) (c .before .before .pre .2)
 
 returns : tie.Need-returns
 returns c = c .answer .ensures ∙ ap (λ z. answered 0 (z ∷ [])) (is (c .before))

@@ -4,7 +4,7 @@ use mathlib.Core.Path.{_∙_, ap, ap₂, subst⁻¹}
 use mathlib.Core.List.{[], _∷_}
 use Rattle.element_readings.specs.Reading as reading
 use Rattle.sheet_calls.proofs.Chains.{HasPixel, reading-held}
-use Rattle.surface_answers.specs.Answers.{answered, Small}
+use Rattle.surface_answers.specs.Answers.{answered, FitsFloat}
 use Rattle.surface_of_sheet.specs.Surface.{levelAt, tiltXAt, tiltYAt, bendXXAt, bendXYAt, bendYYAt, level, tiltX, tiltY, bendXX, bendXY, bendYY}
 use Rattle.surface_of_sheet.specs.Read.{numbers}
 use Rattle.surface_of_sheet.proofs.Sizes.{small-level, small-tilts, small-bends}
@@ -22,7 +22,7 @@ evaluates c = let d = c .before .before in let h = held (d .before .before) in e
 level-requires : tie.Need-level-requires
 unfolding level levelAt
 level-requires c κs = let d = c .before in let e = evaluates d in let h = held (d .before .before .before .before) in
-    (e .sized, e .inside, subst⁻¹ Small (same e reading.level) (small-level _ _ _ (h .accepted) (h .inside)))
+    (e .sized, e .inside, subst⁻¹ FitsFloat (same e reading.level) (small-level _ _ _ (h .accepted) (h .inside)))
 
 returns : tie.Need-returns
 unfolding level levelAt numbers
@@ -33,7 +33,7 @@ tilt-requires : tie.Need-tilt-requires
 unfolding tiltX tiltY tiltXAt tiltYAt
 tilt-requires c κs = let d = c .before .before in let e = evaluates d in let h = held (d .before .before .before .before) in
     let t = small-tilts _ _ _ (h .accepted) (h .inside) in
-    (e .sized, e .inside, subst⁻¹ Small (same e reading.tiltX) (t .0), subst⁻¹ Small (same e reading.tiltY) (t .1))
+    (e .sized, e .inside, subst⁻¹ FitsFloat (same e reading.tiltX) (t .0), subst⁻¹ FitsFloat (same e reading.tiltY) (t .1))
 
 returns-2 : tie.Need-returns-2
 unfolding tiltX tiltY tiltXAt tiltYAt numbers
@@ -44,7 +44,7 @@ bend-requires : tie.Need-bend-requires
 unfolding bendXX bendXY bendYY bendXXAt bendXYAt bendYYAt
 bend-requires c κs = let d = c .before .before in let e = evaluates d in let h = held (d .before .before .before .before) in
     let b = small-bends _ _ _ (h .accepted) (h .inside) in
-    (e .sized, e .inside, subst⁻¹ Small (same e reading.bendXX) (b .0), subst⁻¹ Small (same e reading.bendXY) (b .1), subst⁻¹ Small (same e reading.bendYY) (b .2))
+    (e .sized, e .inside, subst⁻¹ FitsFloat (same e reading.bendXX) (b .0), subst⁻¹ FitsFloat (same e reading.bendXY) (b .1), subst⁻¹ FitsFloat (same e reading.bendYY) (b .2))
 
 returns-3 : tie.Need-returns-3
 unfolding bendXX bendXY bendYY bendXXAt bendXYAt bendYYAt

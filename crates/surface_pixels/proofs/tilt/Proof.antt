@@ -7,7 +7,7 @@ use Rattle.integers.proofs.Operand.{unchanged}
 use Rattle.element_cell.specs.Cell.{pixelCell, pixelPoint}
 use Rattle.element_cell.specs.Coefficients.{halves}
 use Rattle.element_readings.specs.Reading.{tiltX, tiltY}
-use Rattle.surface_answers.specs.Answers.{answered, Small}
+use Rattle.surface_answers.specs.Answers.{answered, FitsFloat}
 use Rattle.surface_pixels.proofs.tilt.Statement.{statement}
 use Rattle.surface_pixels.proofs.tilt.Tie as tie
 
@@ -18,7 +18,7 @@ is-y : (c : tie.After-new) → let a = c .before .before .before .args in c .new
 is-y c = c .new .ensures .1 ∙ unchanged w64 (c .before .tilt-y .ok) ∙ c .before .tilt-y .ensures
 
 answer-requires : tie.Need-answer-requires
-answer-requires c κs = let p = c .before .before .before .pre in (subst⁻¹ Small (is-x c) (p .2), subst⁻¹ Small (is-y c) (p .3))
+answer-requires c κs = let p = c .before .before .before .pre in (subst⁻¹ FitsFloat (is-x c) (p .2), subst⁻¹ FitsFloat (is-y c) (p .3))
 
 pub tilt-spec : {M : Type 1} → statement M
 tilt-spec =
