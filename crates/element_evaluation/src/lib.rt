@@ -9,7 +9,7 @@ ghost use Rattle.integers.specs.Round.{round};
 ghost use Rattle.element_cell.specs.Cell.{pixelCell, pixelPoint, PixelInCell};
 ghost use Rattle.element_cell.specs.Corners.{largest};
 ghost use Rattle.element_cell.specs.Coefficients.{halves, Sized};
-ghost use Rattle.element_readings.specs.Reading.{level, tiltX, tiltY, bendXX, bendXY, bendYY};
+ghost use Rattle.element_readings.specs.Reading.{levelOf, tiltXOf, tiltYOf, bendXXOf, bendXYOf, bendYYOf};
 ghost use Rattle.element_evaluation.specs.Needs.{EachWithin, Factor};
 ghost use Rattle.element_evaluation.specs.LowDegree.{scaledOf, linearAt, quadraticAt};
 use derivatives::by_r;
@@ -23,9 +23,9 @@ use element_corners::lengths::length;
 use element_corners::lengths::square;
 
 // The level, in grains.
-pub fn level(k: [i64; 10], p: Pixel) -> i64
+pub fn level_of(k: [i64; 10], p: Pixel) -> i64
     requires { ⌜ Sized k × PixelInCell p ⌝ }
-    ensures { λ r. ⌜ r ≡ level (pixelCell p) (halves k) (pixelPoint p) ⌝ }
+    ensures { λ r. ⌜ r ≡ levelOf (pixelCell p) (halves k) (pixelPoint p) ⌝ }
 {
     let cubic = element_row_cubic::along_row(k, p.b, p.width, p.height);
     let n = element_row_cubic::at_offset(cubic, p.a);
@@ -33,38 +33,38 @@ pub fn level(k: [i64; 10], p: Pixel) -> i64
 }
 
 // The tilt along x, and along y, in grains per pixel.
-pub fn tilt_x(k: [i64; 10], p: Pixel) -> i64
+pub fn tilt_x_of(k: [i64; 10], p: Pixel) -> i64
     requires { ⌜ Sized k × PixelInCell p ⌝ }
-    ensures { λ r. ⌜ r ≡ tiltX (pixelCell p) (halves k) (pixelPoint p) ⌝ }
+    ensures { λ r. ⌜ r ≡ tiltXOf (pixelCell p) (halves k) (pixelPoint p) ⌝ }
 {
     slope(by_r(k), p, cube(p.width), square(p.height))
 }
 
-pub fn tilt_y(k: [i64; 10], p: Pixel) -> i64
+pub fn tilt_y_of(k: [i64; 10], p: Pixel) -> i64
     requires { ⌜ Sized k × PixelInCell p ⌝ }
-    ensures { λ r. ⌜ r ≡ tiltY (pixelCell p) (halves k) (pixelPoint p) ⌝ }
+    ensures { λ r. ⌜ r ≡ tiltYOf (pixelCell p) (halves k) (pixelPoint p) ⌝ }
 {
     slope(by_s(k), p, square(p.width), cube(p.height))
 }
 
 // The bend: along x, mixed, and along y, in 1/64 grain per pixel per pixel.
-pub fn bend_xx(k: [i64; 10], p: Pixel) -> i64
+pub fn bend_xx_of(k: [i64; 10], p: Pixel) -> i64
     requires { ⌜ Sized k × PixelInCell p ⌝ }
-    ensures { λ r. ⌜ r ≡ bendXX (pixelCell p) (halves k) (pixelPoint p) ⌝ }
+    ensures { λ r. ⌜ r ≡ bendXXOf (pixelCell p) (halves k) (pixelPoint p) ⌝ }
 {
     curvature(by_rr(k), p, cube(p.width), length(p.height))
 }
 
-pub fn bend_xy(k: [i64; 10], p: Pixel) -> i64
+pub fn bend_xy_of(k: [i64; 10], p: Pixel) -> i64
     requires { ⌜ Sized k × PixelInCell p ⌝ }
-    ensures { λ r. ⌜ r ≡ bendXY (pixelCell p) (halves k) (pixelPoint p) ⌝ }
+    ensures { λ r. ⌜ r ≡ bendXYOf (pixelCell p) (halves k) (pixelPoint p) ⌝ }
 {
     curvature(by_rs(k), p, square(p.width), square(p.height))
 }
 
-pub fn bend_yy(k: [i64; 10], p: Pixel) -> i64
+pub fn bend_yy_of(k: [i64; 10], p: Pixel) -> i64
     requires { ⌜ Sized k × PixelInCell p ⌝ }
-    ensures { λ r. ⌜ r ≡ bendYY (pixelCell p) (halves k) (pixelPoint p) ⌝ }
+    ensures { λ r. ⌜ r ≡ bendYYOf (pixelCell p) (halves k) (pixelPoint p) ⌝ }
 {
     curvature(by_ss(k), p, length(p.width), cube(p.height))
 }

@@ -5,7 +5,7 @@ use Rattle.element_sibson.specs.Cubic.{Cell, Point, pixel, jet, _≋_}
 use Rattle.element_sibson.specs.Piece.{Piece, triangle, Corner, leftTop, rightTop, leftBottom, rightBottom}
 use Rattle.element_sibson.specs.Element.{Nodes, CornerNumbers, sibson, element}
 use Rattle.element_sibson.specs.Theorems.{perPixel}
-use Rattle.element_readings.specs.Reading.{level, tiltX, tiltY}
+use Rattle.element_readings.specs.Reading.{levelOf, tiltXOf, tiltYOf}
 use Rattle.element_readings.specs.CornerWeights.{IsAt}
 
 -- at a corner, from both pieces that touch it
@@ -16,7 +16,7 @@ pub record AtCorners : Type 0 where
   -- height and slopes are exactly the corner's
   pub numbers : (C : Cell) (n : CornerNumbers) (k : Piece) (c : Corner) (P : Point) → T (triangle k P) → IsAt c P → jet C (sibson n k) P ≋ perPixel C (n c)
   -- so the level is its height, and the tilt a node's slopes
-  pub levels : (C : Cell) (n : CornerNumbers) (k : Piece) (c : Corner) (P : Point) → T (triangle k P) → IsAt c P → level C (sibson n k) P ≡ n c .height
-  pub nodeLevels : (C : Cell) (m : Nodes) (k : Piece) (c : Corner) (P : Point) → T (triangle k P) → IsAt c P → level C (element C m k) P ≡ m c .height
-  pub nodeTiltsX : (C : Cell) (m : Nodes) (k : Piece) (c : Corner) (P : Point) → T (triangle k P) → IsAt c P → tiltX C (element C m k) P ≡ m c .xSlope
-  pub nodeTiltsY : (C : Cell) (m : Nodes) (k : Piece) (c : Corner) (P : Point) → T (triangle k P) → IsAt c P → tiltY C (element C m k) P ≡ m c .ySlope
+  pub levels : (C : Cell) (n : CornerNumbers) (k : Piece) (c : Corner) (P : Point) → T (triangle k P) → IsAt c P → levelOf C (sibson n k) P ≡ n c .height
+  pub nodeLevels : (C : Cell) (m : Nodes) (k : Piece) (c : Corner) (P : Point) → T (triangle k P) → IsAt c P → levelOf C (element C m k) P ≡ m c .height
+  pub nodeTiltsX : (C : Cell) (m : Nodes) (k : Piece) (c : Corner) (P : Point) → T (triangle k P) → IsAt c P → tiltXOf C (element C m k) P ≡ m c .xSlope
+  pub nodeTiltsY : (C : Cell) (m : Nodes) (k : Piece) (c : Corner) (P : Point) → T (triangle k P) → IsAt c P → tiltYOf C (element C m k) P ≡ m c .ySlope

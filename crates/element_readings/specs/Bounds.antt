@@ -7,7 +7,7 @@ use Rattle.element_sibson.specs.Cubic.{Cell, Point, pixel, value}
 use Rattle.element_sibson.specs.Piece.{Piece, InCell, triangle, pieceAt}
 use Rattle.element_sibson.specs.Element.{CornerNumbers, sibson}
 use Rattle.element_cell.specs.Corners.{largest, AllWithin}
-use Rattle.element_readings.specs.Reading.{_withinℚ_, level, tiltX, tiltY, bendXX, bendXY, bendYY}
+use Rattle.element_readings.specs.Reading.{_withinℚ_, levelOf, tiltXOf, tiltYOf, bendXXOf, bendXYOf, bendYYOf}
 
 -- a point of a piece
 pub record On (k : Piece) (P : Point) : Type 0 where
@@ -22,10 +22,10 @@ pub record Bounds : Type 0 where
   pub heights : (n : CornerNumbers) (N : ℕ) → AllWithin N n → (k : Piece) (P : Point) → On k P →
       value (sibson n k) P withinℚ whole (pos (3 * N)) ÷ positive 2 tt
   -- so a level lies strictly between −2²⁰ and 2²⁰
-  pub levels : (C : Cell) (n : CornerNumbers) → AllWithin largest n → (k : Piece) (P : Point) → On k P → natAbs (level C (sibson n k) P) < 2 ^ 20
+  pub levels : (C : Cell) (n : CornerNumbers) → AllWithin largest n → (k : Piece) (P : Point) → On k P → natAbs (levelOf C (sibson n k) P) < 2 ^ 20
   -- tilts and bends are far below 2⁵³, so they are exact as 64-bit floats
-  pub tiltsX : (C : Cell) (n : CornerNumbers) → AllWithin largest n → (k : Piece) (P : Point) → InCell P → natAbs (tiltX C (sibson n k) P) < 2 ^ 27
-  pub tiltsY : (C : Cell) (n : CornerNumbers) → AllWithin largest n → (k : Piece) (P : Point) → InCell P → natAbs (tiltY C (sibson n k) P) < 2 ^ 27
-  pub bendsXX : (C : Cell) (n : CornerNumbers) → AllWithin largest n → (k : Piece) (P : Point) → InCell P → natAbs (bendXX C (sibson n k) P) < 2 ^ 34
-  pub bendsXY : (C : Cell) (n : CornerNumbers) → AllWithin largest n → (k : Piece) (P : Point) → InCell P → natAbs (bendXY C (sibson n k) P) < 2 ^ 34
-  pub bendsYY : (C : Cell) (n : CornerNumbers) → AllWithin largest n → (k : Piece) (P : Point) → InCell P → natAbs (bendYY C (sibson n k) P) < 2 ^ 34
+  pub tiltsX : (C : Cell) (n : CornerNumbers) → AllWithin largest n → (k : Piece) (P : Point) → InCell P → natAbs (tiltXOf C (sibson n k) P) < 2 ^ 27
+  pub tiltsY : (C : Cell) (n : CornerNumbers) → AllWithin largest n → (k : Piece) (P : Point) → InCell P → natAbs (tiltYOf C (sibson n k) P) < 2 ^ 27
+  pub bendsXX : (C : Cell) (n : CornerNumbers) → AllWithin largest n → (k : Piece) (P : Point) → InCell P → natAbs (bendXXOf C (sibson n k) P) < 2 ^ 34
+  pub bendsXY : (C : Cell) (n : CornerNumbers) → AllWithin largest n → (k : Piece) (P : Point) → InCell P → natAbs (bendXYOf C (sibson n k) P) < 2 ^ 34
+  pub bendsYY : (C : Cell) (n : CornerNumbers) → AllWithin largest n → (k : Piece) (P : Point) → InCell P → natAbs (bendYYOf C (sibson n k) P) < 2 ^ 34

@@ -7,11 +7,11 @@ use Rattle.element_sibson.specs.Cubic.{Cell, Point, Cubic, pixel}
 use Rattle.element_sibson.specs.Piece.{pieceAt}
 use Rattle.element_sibson.specs.Element.{Nodes, +_, −_, element}
 use Rattle.element_sibson.specs.Examples.{Each, two, four, oblong, raised, plane}
-use Rattle.element_readings.specs.Reading.{level, tiltX, tiltY, bendXX, bendXY, bendYY}
+use Rattle.element_readings.specs.Reading.{levelOf, tiltXOf, tiltYOf, bendXXOf, bendXYOf, bendYYOf}
 
 -- level, tilt x and y, bend xx, xy and yy
 unfoldable pub readings : Cell → Cubic → Point → List ℤ
-readings C f P = level C f P ∷ tiltX C f P ∷ tiltY C f P ∷ bendXX C f P ∷ bendXY C f P ∷ bendYY C f P ∷ []
+readings C f P = levelOf C f P ∷ tiltXOf C f P ∷ tiltYOf C f P ∷ bendXXOf C f P ∷ bendXYOf C f P ∷ bendYYOf C f P ∷ []
 
 -- a cell with its nodes, a pixel of it, and the readings there
 pub record Example : Type 0 where

@@ -17,7 +17,7 @@ use Rattle.element_cell.specs.Corners.{largest, AllWithin}
 use Rattle.element_cell.specs.Coefficients.{listed, halves}
 use Rattle.element_cell.specs.declared.Pixel.{Pixel}
 use Rattle.element_cell.proofs.Sides.{side-is}
-use Rattle.element_readings.specs.Reading.{level}
+use Rattle.element_readings.specs.Reading.{levelOf}
 use Rattle.element_readings.proofs.Bounds.{bounds}
 use Rattle.element_turnings.proofs.Joined.{joined}
 use Rattle.element_turnings.proofs.Sizes.{piece-sized}
@@ -57,8 +57,8 @@ module _ {n : CornerNumbers} {p : Pixel} {count : ℕ} {q : Piece} {cubic : List
   levels-are k l =
       (λ t. round (atOffset (doubled t) (add-assoc (p .a) from k t)) (natAbs (divisor t .value)))
       ∙ sym (rows .levels (pixelCell p) (halves (listed (sibson n q))) (p .a + (from + k)) (p .b))
-      ∙ ap (λ f. level (pixelCell p) f (pixelPoint (toRight p (from + k)))) (joined .back n q)
-      ∙ ap (λ q. level (pixelCell p) (sibson n q) (pixelPoint (toRight p (from + k)))) (sym (s .pieces k l))
+      ∙ ap (λ f. levelOf (pixelCell p) f (pixelPoint (toRight p (from + k)))) (joined .back n q)
+      ∙ ap (λ q. levelOf (pixelCell p) (sibson n q) (pixelPoint (toRight p (from + k)))) (sym (s .pieces k l))
 
   pub levels-fit : FitsAlong cubic (p .a + from) size d
   levels-fit k l = let i = fit .inside in let h = inside-right p {k = from + k} fit (omega (arith, s .fits)) in record {

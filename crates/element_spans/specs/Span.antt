@@ -8,7 +8,7 @@ use Rattle.element_sibson.specs.Piece.{Piece, top, right, bottom, left, pieceAt
 use Rattle.element_sibson.specs.Element.{CornerNumbers, sibson}
 use Rattle.element_cell.specs.Cell.{pixelCell, pixelPoint, PixelInCell}
 use Rattle.element_cell.specs.declared.Pixel.{Pixel}
-use Rattle.element_readings.specs.Reading.{level}
+use Rattle.element_readings.specs.Reading.{levelOf}
 
 -- the pixel k to the right
 abbrev pub toRight : Pixel → ℕ → Pixel
@@ -19,7 +19,7 @@ abbrev pub pixelPiece : Pixel → Piece
 pixelPiece p = pieceAt (pixelPoint p)
 
 unfoldable pub cellLevel : CornerNumbers → Pixel → ℤ
-cellLevel n p = level (pixelCell p) (sibson n (pixelPiece p)) (pixelPoint p)
+cellLevel n p = levelOf (pixelCell p) (sibson n (pixelPiece p)) (pixelPoint p)
 
 -- n / d, rounded up
 unfoldable pub ceiling : ℕ → ℕ → ℕ

@@ -136,14 +136,14 @@ fn fill_levels(
     let mut z = element_row_cubic::differences(cubic, offset);
     let mut k: usize = 0;
     while k < count {
-        row[at + k] = level(z[0], d);
+        row[at + k] = rounded_level(z[0], d);
         z = element_row_cubic::stepped(z);
         k += 1;
     }
 }
 
 // One level: a numerator over the denominator.
-fn level(n: i64, d: Denominator) -> i32
+fn rounded_level(n: i64, d: Denominator) -> i32
     requires { ⌜ LevelFits n d ⌝ }
     ensures { λ r. ⌜ r ≡ round n (natAbs (d .value)) ⌝ }
 {

@@ -1,4 +1,4 @@
--- `element_evaluation::level` meets its contract. Assumes nothing.
+-- `element_evaluation::level_of` meets its contract. Assumes nothing.
 use mathlib.Core.Path.{sym, _∙_, ap, subst⁻¹}
 use mathlib.Core.List.{List}
 use borrow.Author.Needs.{needs}
@@ -16,8 +16,8 @@ use Rattle.element_row_cubic.proofs.Denominators.{denominates}
 use Rattle.element_row_cubic.proofs.Horner.{at-offset-within}
 use Rattle.element_row_cubic.proofs.RowBounds.{row-reach}
 use Rattle.element_row_cubic.proofs.Heights.{rows}
-use Rattle.element_evaluation.proofs.level.Statement.{statement}
-use Rattle.element_evaluation.proofs.level.Tie as tie
+use Rattle.element_evaluation.proofs.level_of.Statement.{statement}
+use Rattle.element_evaluation.proofs.level_of.Tie as tie
 
 -- the row's cubic
 abbrev along : tie.Start → List ℤ
@@ -50,5 +50,5 @@ unfolding halves
 returns c = let e = c .before in let m = e .before in let s = m .before .before in let p = s .args .p in
     unchanged w64 (c .round .ok) ∙ c .round .ensures ∙ (λ i. round (n m .reads i) (natAbs (d e .reads i))) ∙ sym (rows .levels (pixelCell p) (halves (s .args .k)) (p .a) (p .b))
 
-pub level-spec : {M : Type 1} → statement M
-level-spec = tie.close (tie.spec (λ c κs. search needs) at-offset-requires (λ c κs. search needs) round-requires returns)
+pub level-of-spec : {M : Type 1} → statement M
+level-of-spec = tie.close (tie.spec (λ c κs. search needs) at-offset-requires (λ c κs. search needs) round-requires returns)
