@@ -1,2 +1,1 @@
-pub mod Sides
-pub mod Arrays
+pub mod Turned

@@ -1,12 +1,10 @@
 // A cell's twelve corner numbers: corners 00, 10, 01 and 11, of each the height and the slopes per cell width and per cell height.
-pub mod lengths;
-
 ghost use mathlib.Core.Path.{_≡_};
 ghost use Rattle.integers.specs.Within.{_within_};
 ghost use Rattle.element_sibson.specs.Element.{cornerNumbers, swap, negateX, negateY, exchanged, topDown, leftRight};
-ghost use Rattle.element_readings.specs.Bounds.{largest, AllWithin};
-ghost use Rattle.element_corners.specs.Held.{jetOf, corners, three, arrays, numbersOf, Measured, Side, cell};
-use lengths::length;
+ghost use Rattle.element_cell.specs.Cell.{Side, cell};
+ghost use Rattle.element_cell.specs.Corners.{jetOf, corners, three, arrays, numbersOf, largest, AllWithin, Measured};
+use element_cell::lengths::length;
 
 // From the nodes' heights in grains and slopes in grains per pixel.
 pub fn corner_numbers(nodes: [[i64; 3]; 4], width: usize, height: usize) -> [[i64; 3]; 4]

@@ -12,14 +12,14 @@ use Rattle.integers.specs.Within.{_within_}
 use Rattle.integers.proofs.Bounds.{is-within, within-self, within-mono, within-+, within-*}
 use Rattle.integers.proofs.Operand.{Operand, known}
 use Rattle.element_sibson.specs.Cubic.{Power, r¹, s¹, r², rs, s², r³, r²s, rs², s³, byR, byS}
-use Rattle.element_readings.specs.Bounds.{largest, listed}
-use Rattle.element_corners.specs.Held.{side, cell}
-use Rattle.element_turnings.specs.Doubled.{halves, Sized}
-use Rattle.element_evaluation.specs.Pixels.{EachWithin, cellOf, Inside}
+use Rattle.element_cell.specs.Cell.{side, cell, pixelCell, PixelInCell}
+use Rattle.element_cell.specs.Corners.{largest}
+use Rattle.element_cell.specs.Coefficients.{listed, halves, Sized}
+use Rattle.element_cell.specs.declared.Pixel.{Pixel}
+use Rattle.element_cell.proofs.Coefficients.{sized-within}
+use Rattle.element_cell.proofs.Sides.{length-within, side-is}
+use Rattle.element_evaluation.specs.Needs.{EachWithin}
 use Rattle.element_evaluation.specs.LowDegree.{scaledOf, linearAt, quadraticAt}
-use Rattle.element_evaluation.specs.declared.Pixel.{Pixel}
-use Rattle.element_corners.proofs.Sides.{length-within, side-is}
-use Rattle.element_turnings.proofs.Sizes.{sized-within}
 
 -- ---- lists
 
@@ -76,7 +76,7 @@ by-ss-each h = double (once (sized-within h s²)) and double (once (sized-within
 
 -- ---- at a pixel
 
-pub scaled-each : {p : Pixel} → Inside p → EachWithin 4096 (scaledOf (cellOf p) (p .a) (p .b))
+pub scaled-each : {p : Pixel} → PixelInCell p → EachWithin 4096 (scaledOf (pixelCell p) (p .a) (p .b))
 unfolding scaledOf cell
 scaled-each {p} i =
     let w : pos (side (p .width) .number) within 64 = length-within (subst (λ (l : ℕ). l ≤ 64) (sym (side-is (i .width))) (i .width .most)) in

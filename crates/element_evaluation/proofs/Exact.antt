@@ -11,9 +11,8 @@ use Rattle.element_sibson.specs.Fraction.{Positive, _≈_, positive, _*⁺_, wh
 use Rattle.element_sibson.specs.Cubic.{Cell, pixel, value, byR, byS, jet, bend}
 use Rattle.element_sibson.proofs.Fractions.{≈-trans, ≈-÷, ≈-·}
 use Rattle.element_sibson.proofs.Quote.{_/ₑ_, Cubicₑ, valueₑ, equal}
-use Rattle.element_readings.specs.Bounds.{listed}
-use Rattle.element_readings.specs.Reading.{tiltX, tiltY, bendXX, bendXY, bendYY}
-use Rattle.element_turnings.specs.Doubled.{halves}
+use Rattle.element_cell.specs.Coefficients.{listed, halves}
+use Rattle.element_readings.specs.Reading.{tiltXOf, tiltYOf, bendXXOf, bendXYOf, bendYYOf}
 use Rattle.element_row_cubic.proofs.Heights.{rₑ, sₑ, offset, rounded-over}
 use Rattle.element_evaluation.specs.LowDegree.{scaledOf, linearAt, quadraticAt}
 
@@ -76,16 +75,16 @@ module _ (C : Cell) (k : List ℤ) (a b : ℕ) where
   abbrev h : ℕ
   h = H .number
 
-  pub tilt-x-is : tiltX C (halves k) (pixel C a b) ≡ round (quadraticAt (take 6 (listed (byR (halves k)))) (scaledOf C a b)) (2 * (w * w * w * (h * h)))
-  unfolding tiltX jet byR listed halves
+  pub tilt-x-is : tiltXOf C (halves k) (pixel C a b) ≡ round (quadraticAt (take 6 (listed (byR (halves k)))) (scaledOf C a b)) (2 * (w * w * w * (h * h)))
+  unfolding tiltXOf jet byR listed halves
   tilt-x-is = let n = quadraticAt (take 6 (listed (byR (halves k)))) (scaledOf C a b) in
       rounded-over n (positive 2 tt *⁺ (W *⁺ W *⁺ W *⁺ (H *⁺ H)))
       (≈-trans {y = whole n ÷ (positive 2 tt *⁺ (W *⁺ W *⁺ (H *⁺ H))) ÷ W}
       (≈-÷ W (quadratic-is C a b (k-at 1) (pos 2 *ℤ k-at 3) (k-at 4) (pos 3 *ℤ k-at 6) (pos 2 *ℤ k-at 7) (k-at 8)))
       (record { crossed = solve 3 (λ n w h. n ⊗ (# 1 ⊗ (# 2 ⊗ (w ⊗ w ⊗ w ⊗ (h ⊗ h)))) ≐ n ⊗ (# 1 ⊗ (# 2 ⊗ (w ⊗ w ⊗ (h ⊗ h))) ⊗ w)) tt n (pos w) (pos h) }))
 
-  pub tilt-y-is : tiltY C (halves k) (pixel C a b) ≡ round (quadraticAt (take 6 (listed (byS (halves k)))) (scaledOf C a b)) (2 * (w * w * (h * h * h)))
-  unfolding tiltY jet byS listed halves
+  pub tilt-y-is : tiltYOf C (halves k) (pixel C a b) ≡ round (quadraticAt (take 6 (listed (byS (halves k)))) (scaledOf C a b)) (2 * (w * w * (h * h * h)))
+  unfolding tiltYOf jet byS listed halves
   tilt-y-is = let n = quadraticAt (take 6 (listed (byS (halves k)))) (scaledOf C a b) in
       rounded-over n (positive 2 tt *⁺ (W *⁺ W *⁺ (H *⁺ H *⁺ H)))
       (≈-trans {y = whole n ÷ (positive 2 tt *⁺ (W *⁺ W *⁺ (H *⁺ H))) ÷ H}
@@ -101,24 +100,24 @@ module _ (C : Cell) (k : List ℤ) (a b : ℕ) where
   abbrev yy : List ℤ
   yy = take 3 (listed (byS (byS (halves k))))
 
-  pub bend-xx-is : bendXX C (halves k) (pixel C a b) ≡ round (pos 64 *ℤ linearAt xx (scaledOf C a b)) (2 * (w * w * w * h))
-  unfolding bendXX bend byR listed halves
+  pub bend-xx-is : bendXXOf C (halves k) (pixel C a b) ≡ round (pos 64 *ℤ linearAt xx (scaledOf C a b)) (2 * (w * w * w * h))
+  unfolding bendXXOf bend byR listed halves
   bend-xx-is = let n = linearAt xx (scaledOf C a b) in
       rounded-over (pos 64 *ℤ n) (positive 2 tt *⁺ (W *⁺ W *⁺ W *⁺ H))
       (≈-trans {y = pos 64 ·ℚ (whole n ÷ (positive 2 tt *⁺ (W *⁺ H)) ÷ W ÷ W)}
       (≈-· (pos 64) (≈-÷ W (≈-÷ W (linear-is C a b (pos 2 *ℤ k-at 3) (pos 2 *ℤ (pos 3 *ℤ k-at 6)) (pos 2 *ℤ k-at 7)))))
       (record { crossed = solve 3 (λ n w h. # 64 ⊗ n ⊗ (# 1 ⊗ (# 2 ⊗ (w ⊗ w ⊗ w ⊗ h))) ≐ # 64 ⊗ n ⊗ (# 1 ⊗ (# 2 ⊗ (w ⊗ h)) ⊗ w ⊗ w)) tt n (pos w) (pos h) }))
 
-  pub bend-xy-is : bendXY C (halves k) (pixel C a b) ≡ round (pos 64 *ℤ linearAt xy (scaledOf C a b)) (2 * (w * w * (h * h)))
-  unfolding bendXY bend byR byS listed halves
+  pub bend-xy-is : bendXYOf C (halves k) (pixel C a b) ≡ round (pos 64 *ℤ linearAt xy (scaledOf C a b)) (2 * (w * w * (h * h)))
+  unfolding bendXYOf bend byR byS listed halves
   bend-xy-is = let n = linearAt xy (scaledOf C a b) in
       rounded-over (pos 64 *ℤ n) (positive 2 tt *⁺ (W *⁺ W *⁺ (H *⁺ H)))
       (≈-trans {y = pos 64 ·ℚ (whole n ÷ (positive 2 tt *⁺ (W *⁺ H)) ÷ W ÷ H)}
       (≈-· (pos 64) (≈-÷ H (≈-÷ W (linear-is C a b (k-at 4) (pos 2 *ℤ k-at 7) (pos 2 *ℤ k-at 8)))))
       (record { crossed = solve 3 (λ n w h. # 64 ⊗ n ⊗ (# 1 ⊗ (# 2 ⊗ (w ⊗ w ⊗ (h ⊗ h)))) ≐ # 64 ⊗ n ⊗ (# 1 ⊗ (# 2 ⊗ (w ⊗ h)) ⊗ w ⊗ h)) tt n (pos w) (pos h) }))
 
-  pub bend-yy-is : bendYY C (halves k) (pixel C a b) ≡ round (pos 64 *ℤ linearAt yy (scaledOf C a b)) (2 * (w * (h * h * h)))
-  unfolding bendYY bend byS listed halves
+  pub bend-yy-is : bendYYOf C (halves k) (pixel C a b) ≡ round (pos 64 *ℤ linearAt yy (scaledOf C a b)) (2 * (w * (h * h * h)))
+  unfolding bendYYOf bend byS listed halves
   bend-yy-is = let n = linearAt yy (scaledOf C a b) in
       rounded-over (pos 64 *ℤ n) (positive 2 tt *⁺ (W *⁺ (H *⁺ H *⁺ H)))
       (≈-trans {y = pos 64 ·ℚ (whole n ÷ (positive 2 tt *⁺ (W *⁺ H)) ÷ H ÷ H)}

@@ -11,11 +11,11 @@ use Rattle.integers.specs.Round.{round}
 use Rattle.integers.proofs.Order.{<→<ℤ}
 use Rattle.integers.proofs.Bounds.{within-mono}
 use Rattle.integers.proofs.Operand.{Operand, known, returned}
-use Rattle.element_corners.specs.Held.{Side, cell}
-use Rattle.element_evaluation.specs.Pixels.{EachWithin, cellOf, Inside, Factor}
+use Rattle.element_cell.specs.Cell.{Side, cell, pixelCell, PixelInCell}
+use Rattle.element_cell.specs.declared.Pixel.{Pixel}
+use Rattle.element_cell.proofs.Sides.{length-within, square-within, cube-within, side-is}
+use Rattle.element_evaluation.specs.Needs.{EachWithin, Factor}
 use Rattle.element_evaluation.specs.LowDegree.{scaledOf, linearAt, quadraticAt}
-use Rattle.element_evaluation.specs.declared.Pixel.{Pixel}
-use Rattle.element_corners.proofs.Sides.{length-within, square-within, cube-within, side-is}
 
 abbrev as-read : ℤ → ℤ
 as-read z = toZ w64 (ofZ w64 z)
@@ -60,14 +60,14 @@ cube-is {x = x} e = record { power = λ l. l * l * l; result = x; is = e; factor
 -- at a pixel: what a call returned for its coefficients, what they are, and the powers
 pub record Quotient : Type 0 where
   pub p : Pixel
-  pub inside : Inside p
+  pub inside : PixelInCell p
   pub result : List ℤ
   pub coefficients : List ℤ
   pub is : result ≡ coefficients
   pub x : PowerOf (p .width)
   pub y : PowerOf (p .height)
 
-abbrev pub quotient-of : {p : Pixel} {c d : List ℤ} → Inside p → c ≡ d → PowerOf (p .width) → PowerOf (p .height) → Quotient
+abbrev pub quotient-of : {p : Pixel} {c d : List ℤ} → PixelInCell p → c ≡ d → PowerOf (p .width) → PowerOf (p .height) → Quotient
 quotient-of {p} {c} {d} i e x y = record { p = p; inside = i; result = c; coefficients = d; is = e; x = x; y = y }
 
 module _ (q : Quotient) where
@@ -85,9 +85,9 @@ module _ (q : Quotient) where
   divisor-read = 2 * (natAbs (x .read) * natAbs (y .read))
 
   abbrev divisor : ℕ
-  divisor = 2 * (q .x .power (cellOf p .W .number) * q .y .power (cellOf p .H .number))
+  divisor = 2 * (q .x .power (pixelCell p .W .number) * q .y .power (pixelCell p .H .number))
 
-  pub asked : {N : ℕ} → EachWithin N (q .coefficients) → EachWithin N (q .result) × Inside p × Factor (x .read) × Factor (y .read)
+  pub asked : {N : ℕ} → EachWithin N (q .coefficients) → EachWithin N (q .result) × PixelInCell p × Factor (x .read) × Factor (y .read)
   asked {N} h = (
     subst⁻¹ (λ c. EachWithin N c) (q .is) h,
     q .inside,
@@ -101,10 +101,10 @@ module _ (q : Quotient) where
       ∙ sym (f ∙ (λ i. round (n (q .coefficients)) (2 * (q .x .power (side-is (q .inside .width) i) * q .y .power (side-is (q .inside .height) i)))))
 
   abbrev quadratic : List ℤ → ℤ
-  quadratic c = quadraticAt c (scaledOf (cellOf p) (p .a) (p .b))
+  quadratic c = quadraticAt c (scaledOf (pixelCell p) (p .a) (p .b))
 
   abbrev linear : List ℤ → ℤ
-  linear c = pos 64 *ℤ linearAt c (scaledOf (cellOf p) (p .a) (p .b))
+  linear c = pos 64 *ℤ linearAt c (scaledOf (pixelCell p) (p .a) (p .b))
 
   -- what `slope` and `curvature` returned, r, is the reading v
   pub slope-is : {r v : ℤ} → r ≡ round (quadratic (q .result)) divisor-read → v ≡ round (quadratic (q .coefficients)) divisor → r ≡ v

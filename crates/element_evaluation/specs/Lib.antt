@@ -1,2 +1,2 @@
-pub mod Pixels
+pub mod Needs
 pub mod LowDegree

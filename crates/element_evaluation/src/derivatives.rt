@@ -2,8 +2,7 @@
 ghost use mathlib.Core.Path.{_≡_};
 ghost use lib.ListN.{take};
 ghost use Rattle.element_sibson.specs.Cubic.{byR, byS};
-ghost use Rattle.element_readings.specs.Bounds.{listed};
-ghost use Rattle.element_turnings.specs.Doubled.{halves, Sized};
+ghost use Rattle.element_cell.specs.Coefficients.{listed, halves, Sized};
 
 pub fn by_r(k: [i64; 10]) -> [i64; 6]
     requires { ⌜ Sized k ⌝ }

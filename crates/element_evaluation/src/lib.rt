@@ -6,32 +6,26 @@ ghost use Prim.Native.Nat.{_*_, _^_};
 ghost use lib.IntN.{pos, natAbs, _*ℤ_};
 ghost use Rattle.integers.specs.Within.{_within_};
 ghost use Rattle.integers.specs.Round.{round};
-ghost use Rattle.element_readings.specs.Bounds.{largest};
-ghost use Rattle.element_readings.specs.Reading.{level, tiltX, tiltY, bendXX, bendXY, bendYY};
-ghost use Rattle.element_turnings.specs.Doubled.{halves, Sized};
-ghost use Rattle.element_evaluation.specs.Pixels.{EachWithin, cellOf, pointOf, Inside, Factor};
+ghost use Rattle.element_cell.specs.Cell.{pixelCell, pixelPoint, PixelInCell};
+ghost use Rattle.element_cell.specs.Corners.{largest};
+ghost use Rattle.element_cell.specs.Coefficients.{halves, Sized};
+ghost use Rattle.element_readings.specs.Reading.{levelOf, tiltXOf, tiltYOf, bendXXOf, bendXYOf, bendYYOf};
+ghost use Rattle.element_evaluation.specs.Needs.{EachWithin, Factor};
 ghost use Rattle.element_evaluation.specs.LowDegree.{scaledOf, linearAt, quadraticAt};
 use derivatives::by_r;
 use derivatives::by_rr;
 use derivatives::by_rs;
 use derivatives::by_s;
 use derivatives::by_ss;
-use element_corners::lengths::cube;
-use element_corners::lengths::length;
-use element_corners::lengths::square;
-
-// The pixel a and b pixels from the left and the top edge of a cell.
-pub struct Pixel {
-    pub a: usize,
-    pub b: usize,
-    pub width: usize,
-    pub height: usize,
-}
+use element_cell::Pixel;
+use element_cell::lengths::cube;
+use element_cell::lengths::length;
+use element_cell::lengths::square;
 
 // The level, in grains.
-pub fn level(k: [i64; 10], p: Pixel) -> i64
-    requires { ⌜ Sized k × Inside p ⌝ }
-    ensures { λ r. ⌜ r ≡ level (cellOf p) (halves k) (pointOf p) ⌝ }
+pub fn level_of(k: [i64; 10], p: Pixel) -> i64
+    requires { ⌜ Sized k × PixelInCell p ⌝ }
+    ensures { λ r. ⌜ r ≡ levelOf (pixelCell p) (halves k) (pixelPoint p) ⌝ }
 {
     let cubic = element_row_cubic::along_row(k, p.b, p.width, p.height);
     let n = element_row_cubic::at_offset(cubic, p.a);
@@ -39,46 +33,46 @@ pub fn level(k: [i64; 10], p: Pixel) -> i64
 }
 
 // The tilt along x, and along y, in grains per pixel.
-pub fn tilt_x(k: [i64; 10], p: Pixel) -> i64
-    requires { ⌜ Sized k × Inside p ⌝ }
-    ensures { λ r. ⌜ r ≡ tiltX (cellOf p) (halves k) (pointOf p) ⌝ }
+pub fn tilt_x_of(k: [i64; 10], p: Pixel) -> i64
+    requires { ⌜ Sized k × PixelInCell p ⌝ }
+    ensures { λ r. ⌜ r ≡ tiltXOf (pixelCell p) (halves k) (pixelPoint p) ⌝ }
 {
     slope(by_r(k), p, cube(p.width), square(p.height))
 }
 
-pub fn tilt_y(k: [i64; 10], p: Pixel) -> i64
-    requires { ⌜ Sized k × Inside p ⌝ }
-    ensures { λ r. ⌜ r ≡ tiltY (cellOf p) (halves k) (pointOf p) ⌝ }
+pub fn tilt_y_of(k: [i64; 10], p: Pixel) -> i64
+    requires { ⌜ Sized k × PixelInCell p ⌝ }
+    ensures { λ r. ⌜ r ≡ tiltYOf (pixelCell p) (halves k) (pixelPoint p) ⌝ }
 {
     slope(by_s(k), p, square(p.width), cube(p.height))
 }
 
 // The bend: along x, mixed, and along y, in 1/64 grain per pixel per pixel.
-pub fn bend_xx(k: [i64; 10], p: Pixel) -> i64
-    requires { ⌜ Sized k × Inside p ⌝ }
-    ensures { λ r. ⌜ r ≡ bendXX (cellOf p) (halves k) (pointOf p) ⌝ }
+pub fn bend_xx_of(k: [i64; 10], p: Pixel) -> i64
+    requires { ⌜ Sized k × PixelInCell p ⌝ }
+    ensures { λ r. ⌜ r ≡ bendXXOf (pixelCell p) (halves k) (pixelPoint p) ⌝ }
 {
     curvature(by_rr(k), p, cube(p.width), length(p.height))
 }
 
-pub fn bend_xy(k: [i64; 10], p: Pixel) -> i64
-    requires { ⌜ Sized k × Inside p ⌝ }
-    ensures { λ r. ⌜ r ≡ bendXY (cellOf p) (halves k) (pointOf p) ⌝ }
+pub fn bend_xy_of(k: [i64; 10], p: Pixel) -> i64
+    requires { ⌜ Sized k × PixelInCell p ⌝ }
+    ensures { λ r. ⌜ r ≡ bendXYOf (pixelCell p) (halves k) (pixelPoint p) ⌝ }
 {
     curvature(by_rs(k), p, square(p.width), square(p.height))
 }
 
-pub fn bend_yy(k: [i64; 10], p: Pixel) -> i64
-    requires { ⌜ Sized k × Inside p ⌝ }
-    ensures { λ r. ⌜ r ≡ bendYY (cellOf p) (halves k) (pointOf p) ⌝ }
+pub fn bend_yy_of(k: [i64; 10], p: Pixel) -> i64
+    requires { ⌜ Sized k × PixelInCell p ⌝ }
+    ensures { λ r. ⌜ r ≡ bendYYOf (pixelCell p) (halves k) (pixelPoint p) ⌝ }
 {
     curvature(by_ss(k), p, length(p.width), cube(p.height))
 }
 
 // The polynomial of degree 2 with these doubled coefficients is 2 W² H² times the derivative; over 2 x y, where x y is W² H² times W or H, it is the slope.
 fn slope(c: [i64; 6], p: Pixel, x: i64, y: i64) -> i64
-    requires { ⌜ EachWithin (3 * (256 * largest)) c × Inside p × Factor x × Factor y ⌝ }
-    ensures { λ r. ⌜ r ≡ round (quadraticAt c (scaledOf (cellOf p) (p .a) (p .b))) (2 * (natAbs x * natAbs y)) ⌝ }
+    requires { ⌜ EachWithin (3 * (256 * largest)) c × PixelInCell p × Factor x × Factor y ⌝ }
+    ensures { λ r. ⌜ r ≡ round (quadraticAt c (scaledOf (pixelCell p) (p .a) (p .b))) (2 * (natAbs x * natAbs y)) ⌝ }
 {
     over(quadratic(c, scaled(p)), x, y)
 }
@@ -86,8 +80,8 @@ fn slope(c: [i64; 6], p: Pixel, x: i64, y: i64) -> i64
 // The polynomial of degree 1 with these doubled coefficients is 2 W H times the second derivative; over 2 x y, where x y is W H times W², W H or H², it is
 // the bend, counted in 1/64.
 fn curvature(c: [i64; 3], p: Pixel, x: i64, y: i64) -> i64
-    requires { ⌜ EachWithin (6 * (256 * largest)) c × Inside p × Factor x × Factor y ⌝ }
-    ensures { λ r. ⌜ r ≡ round (pos 64 *ℤ linearAt c (scaledOf (cellOf p) (p .a) (p .b))) (2 * (natAbs x * natAbs y)) ⌝ }
+    requires { ⌜ EachWithin (6 * (256 * largest)) c × PixelInCell p × Factor x × Factor y ⌝ }
+    ensures { λ r. ⌜ r ≡ round (pos 64 *ℤ linearAt c (scaledOf (pixelCell p) (p .a) (p .b))) (2 * (natAbs x * natAbs y)) ⌝ }
 {
     over(64 * linear(c, scaled(p)), x, y)
 }
@@ -121,8 +115,8 @@ fn linear(c: [i64; 3], z: [i64; 3]) -> i64
 
 // 1, r and s at the pixel, times W H
 fn scaled(p: Pixel) -> [i64; 3]
-    requires { ⌜ Inside p ⌝ }
-    ensures { λ r. ⌜ r ≡ scaledOf (cellOf p) (p .a) (p .b) ⌝ }
+    requires { ⌜ PixelInCell p ⌝ }
+    ensures { λ r. ⌜ r ≡ scaledOf (pixelCell p) (p .a) (p .b) ⌝ }
 {
     let w = length(p.width);
     let h = length(p.height);

@@ -10,7 +10,8 @@ use Rattle.integers.proofs.Deduce.{both}
 use Rattle.integers.proofs.Bounds.{is-within, within-mono, within-+, within-*}
 use Rattle.element_sibson.specs.Cubic.{Power, one, r¹, s¹, r², rs, s², r³, r²s, rs², s³, Jet}
 use Rattle.element_sibson.specs.Element.{column}
-use Rattle.element_readings.specs.Bounds.{largest, listed}
+use Rattle.element_cell.specs.Corners.{largest}
+use Rattle.element_cell.specs.Coefficients.{listed}
 use Rattle.element_pieces.specs.Parts.{TenWithin, JetWithin, added, withCorner}
 
 abbrev rowTest : ℕ → List ℤ → Bool

@@ -9,7 +9,7 @@ use lib.IntN.{ℤ, pos, _+ℤ_, _*ℤ_}
 use lib.ListN.{getD, set}
 use Rattle.integers.specs.Within.{_within_}
 use Rattle.element_sibson.specs.Cubic.{one, r¹, s¹, r², rs, s², r³, r²s, rs², s³}
-use Rattle.element_readings.specs.Bounds.{listed}
+use Rattle.element_cell.specs.Coefficients.{listed}
 use Rattle.element_pieces.specs.Parts.{TenWithin, added}
 
 below-ten : (P : ℕ → Type 0) → P 0 → P 1 → P 2 → P 3 → P 4 → P 5 → P 6 → P 7 → P 8 → P 9 → (i : ℕ) → i < 10 → P i

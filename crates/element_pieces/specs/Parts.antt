@@ -1,4 +1,4 @@
--- How the code holds a piece, and how it adds up the coefficients of piece 0, row by row of the weights. Assumes nothing.
+-- How the code adds up the coefficients of piece 0, row by row of the weights. Assumes nothing.
 use mathlib.Core.List.{List}
 use Prim.Native.Nat.{ℕ}
 use lib.IntN.{ℤ, pos, _+ℤ_, _*ℤ_}
@@ -6,26 +6,8 @@ use lib.ListN.{getD}
 use Rattle.integers.specs.Within.{_within_}
 use Rattle.element_sibson.specs.Fraction.{positive}
 use Rattle.element_sibson.specs.Cubic.{Power, cubicOf, Jet}
-use Rattle.element_sibson.specs.Piece.{Piece, top, right, bottom, left}
 use Rattle.element_sibson.specs.Element.{column}
-use Rattle.element_readings.specs.Bounds.{listed}
-use Rattle.element_pieces.specs.declared.Piece as held
-
--- pieces 0 to 3, as the code names them
-unfoldable pub pieceOf : held.Piece → Piece
-pieceOf held.the-variants.Top = top
-pieceOf held.the-variants.Right = right
-pieceOf held.the-variants.Bottom = bottom
-pieceOf held.the-variants.Left = left
-
--- and back
-unfoldable pub named : Piece → held.Piece
-named top = held.the-variants.Top
-named right = held.the-variants.Right
-named bottom = held.the-variants.Bottom
-named left = held.the-variants.Left
-
--- ---- piece 0, row by row
+use Rattle.element_cell.specs.Coefficients.{listed}
 
 -- a row of ten times a number, added to sums
 unfoldable pub added : List ℤ → List ℤ → ℤ → List ℤ

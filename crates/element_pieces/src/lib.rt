@@ -3,16 +3,11 @@ ghost use mathlib.Core.Path.{_≡_};
 ghost use Prim.Native.Nat.{_*_};
 ghost use Rattle.integers.specs.Within.{_within_};
 ghost use Rattle.element_sibson.specs.Element.{onTop, onLeft, sibson};
-ghost use Rattle.element_readings.specs.Bounds.{largest, AllWithin, listed};
-ghost use Rattle.element_corners.specs.Held.{jetOf, corners};
-ghost use Rattle.element_pieces.specs.Parts.{TenWithin, JetWithin, added, withCorner, pieceOf};
-
-pub enum Piece {
-    Top,
-    Right,
-    Bottom,
-    Left,
-}
+ghost use Rattle.element_cell.specs.Corners.{jetOf, corners, largest, AllWithin};
+ghost use Rattle.element_cell.specs.Coefficients.{listed};
+ghost use Rattle.element_cell.specs.Pieces.{pieceOf};
+ghost use Rattle.element_pieces.specs.Parts.{TenWithin, JetWithin, added, withCorner};
+use element_cell::Piece;
 
 // The doubled weights of piece 0: a row for each corner number, a column for each power.
 const WEIGHTS: [[i64; 10]; 12] = [

@@ -12,8 +12,9 @@ use Rattle.element_sibson.proofs.Fractions.{≈-sym, ≈-÷-none, ≈-complemen
 use Rattle.element_sibson.proofs.Jets.{_≈ₚ_, jet-at, ≋-trans}
 use Rattle.element_sibson.proofs.Covers.{Inside, inside, test}
 use Rattle.element_sibson.proofs.Exists.{numbers, nodes}
-use Rattle.element_readings.specs.Reading.{level, tiltX, tiltY}
-use Rattle.element_readings.specs.Bounds.{IsAt, AtCorners}
+use Rattle.element_readings.specs.Reading.{levelOf, tiltXOf, tiltYOf}
+use Rattle.element_readings.specs.CornerWeights.{IsAt}
+use Rattle.element_readings.specs.AtCorners.{AtCorners}
 use Rattle.element_readings.proofs.Rounded.{rounded-whole}
 
 -- ---- a triangle holds the same points, however they are written
@@ -45,7 +46,7 @@ itself : (n : Positive) → whole (pos (n .number)) ÷ n ≈ whole (pos 1)
 itself n = record { crossed = solve 1 (λ n. n ⊗ # 1 ≐ # 1 ⊗ (# 1 ⊗ n)) tt (pos (n .number)) }
 
 pub at-corners : AtCorners
-unfolding level tiltX tiltY perPixel wholes
+unfolding levelOf tiltXOf tiltYOf perPixel wholes
 at-corners = record {
   pixels = λ C. (
     record { across = ≈-÷-none (C .W); down = ≈-÷-none (C .H) },

@@ -11,8 +11,10 @@ use Rattle.element_sibson.specs.Cubic.{Cell, Point, pixel, Cubic, value, byR, b
 use Rattle.element_sibson.specs.Piece.{Piece, InCell}
 use Rattle.element_sibson.specs.Element.{CornerNumbers, sibson}
 use Rattle.element_sibson.proofs.Covers.{covering}
-use Rattle.element_readings.specs.Reading.{rounded, level, tiltX, tiltY, bendXX, bendXY, bendYY}
-use Rattle.element_readings.specs.Bounds.{largest, AllWithin, On, listed, size, Bounds}
+use Rattle.element_cell.specs.Corners.{largest, AllWithin}
+use Rattle.element_cell.specs.Coefficients.{listed, size}
+use Rattle.element_readings.specs.Reading.{rounded, levelOf, tiltXOf, tiltYOf, bendXXOf, bendXYOf, bendYYOf}
+use Rattle.element_readings.specs.Bounds.{On, Bounds}
 use Rattle.element_readings.proofs.WithinFractions.{within-÷, within-·, at-most}
 use Rattle.element_readings.proofs.Rounded.{rounded-within}
 use Rattle.element_readings.proofs.WeightSums.{coefficients}
@@ -32,8 +34,8 @@ pixel-in C a b h l = record {
   toBottom = at-most b 1 (C .H) (omega arith);
 }
 
-levels : (C : Cell) (n : CornerNumbers) → AllWithin largest n → (k : Piece) (P : Point) → On k P → natAbs (level C (sibson n k) P) < 2 ^ 20
-unfolding level jet
+levels : (C : Cell) (n : CornerNumbers) → AllWithin largest n → (k : Piece) (P : Point) → On k P → natAbs (levelOf C (sibson n k) P) < 2 ^ 20
+unfolding levelOf jet
 levels C n h k P o = lt-of-le-of-lt
     (rounded-within 393120 (heights n largest h k P o) (at-most (3 * largest) 393120 (positive 2 tt) (omega arith)) .bound) (lit< tt)
 
@@ -53,7 +55,7 @@ two : (n : CornerNumbers) (k : Piece) → sibson n k .divisor .number ≡ 2
 two n k = ap (λ d. d .number) (divisor-is n k)
 
 pub bounds : Bounds
-unfolding tiltX tiltY bendXX bendXY bendYY jet bend byR byS
+unfolding tiltXOf tiltYOf bendXXOf bendXYOf bendYYOf jet bend byR byS
 bounds = record {
   pixels = λ C a b h l. record { inCell = pixel-in C a b h l; inTriangle = covering .covers (pixel C a b) };
   heights = heights;

@@ -13,7 +13,9 @@ use Rattle.element_sibson.specs.Cubic.{Point, Jet, value}
 use Rattle.element_sibson.specs.Piece.{Piece, Corner}
 use Rattle.element_sibson.specs.Element.{CornerNumbers, inOrder, sibson}
 use Rattle.element_sibson.proofs.Fractions.{≈-sym, ≈-trans, ≈-+, ≈-·}
-use Rattle.element_readings.specs.Bounds.{place, only, unitHeight, weightOf, nudged}
+use Rattle.element_cell.specs.Corners.{cornerIndex}
+use Rattle.element_readings.specs.WeightSums.{alone, unitHeight}
+use Rattle.element_readings.specs.CornerWeights.{weightOf, nudged}
 use Rattle.element_readings.proofs.WeightSums.{parts}
 use Rattle.element_readings.proofs.Form.{form, cube, commonly, common}
 use Rattle.element_readings.proofs.Parts.{dot-plus, form-sibson, overCubes, value-sibson}
@@ -40,16 +42,16 @@ over-plus x y w z Q e = record {
 module _ (c : Corner) (z : ℤ) (n : CornerNumbers) where
   -- each number with what is added to it for each unit of z
   abbrev changing : Corner → Jet (ℤ × ℤ)
-  changing d = let j = only c unitHeight d in record { height = (n d .height, j .height); xSlope = (n d .xSlope, j .xSlope); ySlope = (n d .ySlope, j .ySlope) }
+  changing d = let j = alone c unitHeight d in record { height = (n d .height, j .height); xSlope = (n d .xSlope, j .xSlope); ySlope = (n d .ySlope, j .ySlope) }
 
   abbrev changed : CornerNumbers
   changed d = let j = changing d in
       record { height = j .height .0 +ℤ j .height .1 *ℤ z; xSlope = j .xSlope .0 +ℤ j .xSlope .1 *ℤ z; ySlope = j .ySlope .0 +ℤ j .ySlope .1 *ℤ z }
 
   nudged-is : nudged c z n ≡ changed
-  unfolding nudged only
-  nudged-is = λ i d. let s = no-slopes (eqb (place c) (place d)) in record {
-    height = added (eqb (place c) (place d)) (n d .height) z i;
+  unfolding nudged alone
+  nudged-is = λ i d. let s = no-slopes (eqb (cornerIndex c) (cornerIndex d)) in record {
+    height = added (eqb (cornerIndex c) (cornerIndex d)) (n d .height) z i;
     xSlope = unchanged (n d .xSlope) (changing d .xSlope .1) z (s .0) i;
     ySlope = unchanged (n d .ySlope) (changing d .ySlope .1) z (s .1) i;
   }
@@ -58,14 +60,14 @@ module _ (c : Corner) (z : ℤ) (n : CornerNumbers) where
   unfolding weightOf inOrder
   form-nudged k A B Q = let ws = map (λ f. form f A B Q) (parts k) in
       ap (λ m. form (sibson m k) A B Q) nudged-is ∙ form-sibson changed k A B Q ∙ dot-plus z ws (inOrder changing)
-      ∙ ap₂ (λ x y. x +ℤ y *ℤ z) (sym (form-sibson n k A B Q)) (sym (form-sibson (only c unitHeight) k A B Q))
+      ∙ ap₂ (λ x y. x +ℤ y *ℤ z) (sym (form-sibson n k A B Q)) (sym (form-sibson (alone c unitHeight) k A B Q))
 
   pub changes : (k : Piece) (P : Point) → value (sibson (nudged c z n) k) P ≈ value (sibson n k) P +ℚ z ·ℚ value (weightOf c k) P
   unfolding weightOf
   changes k P = let e = common P in
       ≈-trans (value-sibson (nudged c z n) k e)
-      (≈-sym (≈-trans (≈-+ (value-sibson n k e) (≈-· z (value-sibson (only c unitHeight) k e)))
-      (over-plus (formAt (nudged c z n)) (formAt n) (formAt (only c unitHeight)) z (commonly P .r .denominator) (form-nudged k _ _ _))))
+      (≈-sym (≈-trans (≈-+ (value-sibson n k e) (≈-· z (value-sibson (alone c unitHeight) k e)))
+      (over-plus (formAt (nudged c z n)) (formAt n) (formAt (alone c unitHeight)) z (commonly P .r .denominator) (form-nudged k _ _ _))))
     where
       formAt : CornerNumbers → ℤ
       formAt m = let Q = commonly P in form (sibson m k) (Q .r .numerator) (Q .s .numerator) (pos (Q .r .denominator .number))

@@ -19,7 +19,9 @@ use Rattle.element_sibson.specs.Element.{inOrder, weights, weighed, halved, tra
 use Rattle.element_sibson.proofs.Finite.{everyPiece, every-piece, everyCorner, every-corner}
 use Rattle.element_sibson.proofs.Fractions.{≈-sym, ≈-trans, ≤-left, ≤-right}
 use Rattle.element_sibson.proofs.Jets.{_≈ₚ_}
-use Rattle.element_readings.specs.Bounds.{On, only, unitHeight, weightOf, IsAt, CornerWeights}
+use Rattle.element_readings.specs.Bounds.{On}
+use Rattle.element_readings.specs.WeightSums.{alone, unitHeight}
+use Rattle.element_readings.specs.CornerWeights.{weightOf, IsAt, CornerWeights}
 use Rattle.element_readings.proofs.Changes.{changes}
 use Rattle.element_readings.proofs.Form.{form, cube, cubeₑ}
 use Rattle.element_readings.proofs.Parts.{overCubes, value-sibson}
@@ -64,7 +66,7 @@ passed : (t : Test) → T (everyPiece (λ k. everyCorner (passes t k))) → Ever
 passed t p k c = naturally 3 (t k c) (every-corner (passes t k) (every-piece (λ k. everyCorner (passes t k)) p k) c)
 
 weight≥0 : Everywhere (λ k c u v w. # 0 ≼ weightₑ k c u v w)
-unfolding weightOf only inOrder weights weighed halved transposed flipped mirrored swap negateX negateY exchanged topDown leftRight onTop onLeft sibson
+unfolding weightOf alone inOrder weights weighed halved transposed flipped mirrored swap negateX negateY exchanged topDown leftRight onTop onLeft sibson
 weight≥0 = passed (λ k c u v w. # 0 ≼ weightₑ k c u v w) tt
 
 across≥0 : Everywhere (λ k c u v w. # 0 ≼ acrossₑ k c u v w)
@@ -77,7 +79,7 @@ abbrev shortₑ : Test
 shortₑ k c u v w = weightₑ k c u v w ⊕ cubeₑ (acrossₑ k c u v w) ⊕ cubeₑ (downₑ k c u v w) ≼ # 2 ⊗ cubeₑ (Qₑ u v w)
 
 short : Everywhere shortₑ
-unfolding weightOf only inOrder weights weighed halved transposed flipped mirrored swap negateX negateY exchanged topDown leftRight onTop onLeft sibson
+unfolding weightOf alone inOrder weights weighed halved transposed flipped mirrored swap negateX negateY exchanged topDown leftRight onTop onLeft sibson
 short = passed shortₑ tt
 
 -- ---- the weight at a point of a piece: a natural over 2Q³
@@ -124,7 +126,7 @@ share c k P o =
       weight = n;
       across = x;
       down = y;
-      value-is = subst (λ z. value (weightOf c k) P ≈ overCubes z q) is-n (value-sibson (only c unitHeight) k (g .point));
+      value-is = subst (λ z. value (weightOf c k) P ≈ overCubes z q) is-n (value-sibson (alone c unitHeight) k (g .point));
       most = ≤ℤ→≤ (subst₃ (λ z a b. (z +ℤ a *ℤ a *ℤ a +ℤ b *ℤ b *ℤ b) ≤ℤ pos (2 * cube q .number)) is-n is-x is-y (short k c (g .u) (g .v) (g .w)));
       there = λ no-x no-y. let e = arrived c k (g .u) (g .v) (g .w) (g .above) (is-x ∙ ap pos no-x) (is-y ∙ ap pos no-y) in
           record { across = ≈-trans (g .point .rs) (e .rs); down = ≈-trans (g .point .ss) (e .ss) };

@@ -16,8 +16,11 @@ use Rattle.element_sibson.specs.Cubic.{Point, value}
 use Rattle.element_sibson.specs.Piece.{Piece}
 use Rattle.element_sibson.specs.Element.{CornerNumbers, inOrder, weights, weighed, halved, transposed, flipped, mirrored, swap, negateX, negateY, exchanged, topDown, leftRight, onTop, onLeft, sibson}
 use Rattle.element_sibson.proofs.Finite.{every-piece}
+use Rattle.element_cell.specs.Corners.{AllWithin}
+use Rattle.element_cell.specs.Coefficients.{size}
 use Rattle.element_readings.specs.Reading.{_withinℚ_}
-use Rattle.element_readings.specs.Bounds.{AllWithin, On, only, size}
+use Rattle.element_readings.specs.Bounds.{On}
+use Rattle.element_readings.specs.WeightSums.{alone}
 use Rattle.element_readings.proofs.WeightSums.{parts, each-within}
 use Rattle.element_readings.proofs.Form.{form, cubeₑ, value-within}
 use Rattle.element_readings.proofs.Parts.{dot-within, divisor-is, form-sibson}
@@ -27,7 +30,7 @@ weightsₑ : Piece → Expr → Expr → Expr → List Expr
 weightsₑ k u v w = map (λ f. onPieceₑ k f u v w) (parts k)
 
 small : (k : Piece) → T (fits (weightsₑ k (var 0) (var 1) (var 2)) (# 3 ⊗ cubeₑ (Qₑ (var 0) (var 1) (var 2))))
-unfolding weightsₑ only inOrder weights weighed halved transposed flipped mirrored swap negateX negateY exchanged topDown leftRight onTop onLeft sibson
+unfolding weightsₑ alone inOrder weights weighed halved transposed flipped mirrored swap negateX negateY exchanged topDown leftRight onTop onLeft sibson
 small = every-piece (λ k. fits (weightsₑ k (var 0) (var 1) (var 2)) (# 3 ⊗ cubeₑ (Qₑ (var 0) (var 1) (var 2)))) tt
 
 -- the twelve weights

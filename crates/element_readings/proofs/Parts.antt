@@ -14,7 +14,8 @@ use Rattle.element_sibson.specs.Piece.{Piece}
 use Rattle.element_sibson.specs.Element.{CornerNumbers, inOrder, weighed, halved, sibson}
 use Rattle.element_sibson.proofs.Jets.{_≈ₚ_}
 use Rattle.element_sibson.proofs.Quote.{cubicₑ, cubicOfₑ, coefficientₑ, cubic}
-use Rattle.element_readings.specs.Bounds.{listed, written, size}
+use Rattle.element_cell.specs.Coefficients.{listed, size}
+use Rattle.element_readings.specs.WeightSums.{written}
 use Rattle.element_readings.proofs.WeightSums.{gives, parts, EachWithin}
 use Rattle.element_readings.proofs.Form.{form, formₑ, over, cube, value-form}
 

@@ -16,7 +16,7 @@ use Rattle.integers.proofs.Bounds.{within-lower, within-upper, within-of-range}
 use Rattle.integers.proofs.Rounding.{rounding-laws}
 use Rattle.element_sibson.specs.Fraction.{ℚ, _≈_, _≤ℚ_, whole, half, _-ℚ_, _·ℚ_}
 use Rattle.element_sibson.proofs.Fractions.{≈-sym, ≤-of-≈, ≤-trans}
-use Rattle.element_readings.specs.Reading.{rounded, level, tiltX, tiltY, bendXX, bendXY, bendYY, _withinℚ_, HalfUnit}
+use Rattle.element_readings.specs.Reading.{rounded, levelOf, tiltXOf, tiltYOf, bendXXOf, bendXYOf, bendYYOf, _withinℚ_, HalfUnit}
 
 distances : (x : ℚ) → whole (rounded x) -ℚ x withinℚ half
 unfolding rounded
@@ -32,7 +32,7 @@ distances x = let n = x .numerator in let d = x .denominator in let h = rounding
 }
 
 pub half-unit : HalfUnit
-unfolding level tiltX tiltY bendXX bendXY bendYY
+unfolding levelOf tiltXOf tiltYOf bendXXOf bendXYOf bendYYOf
 half-unit = record {
   distances = distances;
   levels = λ C f P. distances _;

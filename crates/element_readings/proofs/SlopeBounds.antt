@@ -12,8 +12,8 @@ use Rattle.integers.proofs.Bounds.{natAbs-*, within-self, within-mono, within-+
 use Rattle.element_sibson.specs.Fraction.{ℚ, _≤ℚ_, whole, _÷_}
 use Rattle.element_sibson.specs.Cubic.{Point, Cubic, value, byR, byS}
 use Rattle.element_sibson.specs.Piece.{InCell}
+use Rattle.element_cell.specs.Coefficients.{listed, size}
 use Rattle.element_readings.specs.Reading.{_withinℚ_}
-use Rattle.element_readings.specs.Bounds.{listed, size}
 use Rattle.element_readings.proofs.Form.{form, common, value-within}
 
 -- ---- values

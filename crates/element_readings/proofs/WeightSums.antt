@@ -19,7 +19,9 @@ use Rattle.element_sibson.specs.Element.{CornerNumbers, inOrder, column, weight
 use Rattle.element_sibson.proofs.Finite.{every-piece}
 use Rattle.element_sibson.proofs.Quote.{coefficientₑ}
 use Rattle.element_sibson.proofs.QuoteElement.{weighedₑ, numbersₑ, elementₑ, sibson-is}
-use Rattle.element_readings.specs.Bounds.{AllWithin, only, unitHeight, unitX, unitY, listed, written, size, sizes, WeightSums}
+use Rattle.element_cell.specs.Corners.{AllWithin}
+use Rattle.element_cell.specs.Coefficients.{listed, size}
+use Rattle.element_readings.specs.WeightSums.{alone, unitHeight, unitX, unitY, written, sizes, WeightSums}
 
 -- ---- what is written out gives the piece
 
@@ -41,7 +43,7 @@ abbrev agrees : Power → Piece → Bool
 agrees p k = same (writtenₑ k p) (coefficientₑ (elementₑ k) p)
 
 matches : (p : Power) (k : Piece) → T (agrees p k)
-unfolding written listed only inOrder weights weighed halved transposed flipped mirrored swap negateX negateY exchanged topDown leftRight onTop onLeft sibson
+unfolding written listed alone inOrder weights weighed halved transposed flipped mirrored swap negateX negateY exchanged topDown leftRight onTop onLeft sibson
 matches one = every-piece (agrees one) tt
 matches r¹ = every-piece (agrees r¹) tt
 matches s¹ = every-piece (agrees s¹) tt
@@ -63,11 +65,11 @@ gives k n = (λ i. cubicOf (λ p. is p i) (positive 2 tt)) ∙ sym (sibson-is (p
 -- ---- their sums
 
 totals : (sizes (written top) ≡ 108) × (sizes (written right) ≡ 248) × (sizes (written bottom) ≡ 248) × (sizes (written left) ≡ 108)
-unfolding size sizes written listed only inOrder weights weighed halved transposed flipped mirrored swap negateX negateY exchanged topDown leftRight onTop onLeft sibson
+unfolding size sizes written listed alone inOrder weights weighed halved transposed flipped mirrored swap negateX negateY exchanged topDown leftRight onTop onLeft sibson
 totals = (refl, refl, refl, refl)
 
 small : (k : Piece) → T (leb (sizes (written k)) 256)
-unfolding size sizes written listed only inOrder weights weighed halved transposed flipped mirrored swap negateX negateY exchanged topDown leftRight onTop onLeft sibson
+unfolding size sizes written listed alone inOrder weights weighed halved transposed flipped mirrored swap negateX negateY exchanged topDown leftRight onTop onLeft sibson
 small = every-piece (λ k. leb (sizes (written k)) 256) tt
 
 sums : (k : Piece) → sizes (written k) ≤ 256
@@ -121,8 +123,8 @@ weighed-size N (f ∷ fs) (n ∷ ns) h = omega (arith, added (coefficient f) (λ
 -- the twelve corner numbers that are 1 at one place and 0 elsewhere, and the pieces that they give
 abbrev units : List CornerNumbers
 units =
-    only leftTop unitHeight ∷ only leftTop unitX ∷ only leftTop unitY ∷ only rightTop unitHeight ∷ only rightTop unitX ∷ only rightTop unitY ∷
-    only leftBottom unitHeight ∷ only leftBottom unitX ∷ only leftBottom unitY ∷ only rightBottom unitHeight ∷ only rightBottom unitX ∷ only rightBottom unitY ∷ []
+    alone leftTop unitHeight ∷ alone leftTop unitX ∷ alone leftTop unitY ∷ alone rightTop unitHeight ∷ alone rightTop unitX ∷ alone rightTop unitY ∷
+    alone leftBottom unitHeight ∷ alone leftBottom unitX ∷ alone leftBottom unitY ∷ alone rightBottom unitHeight ∷ alone rightBottom unitX ∷ alone rightBottom unitY ∷ []
 
 abbrev pub parts : Piece → List Cubic
 parts k = map (λ n. sibson n k) units

@@ -1,2 +1,5 @@
 pub mod Reading
 pub mod Bounds
+pub mod WeightSums
+pub mod CornerWeights
+pub mod AtCorners

@@ -9,25 +9,25 @@ unfoldable pub rounded : ℚ → ℤ
 rounded x = round (x .numerator) (x .denominator .number)
 
 -- 01's level: the height, in grains
-unfoldable pub level : Cell → Cubic → Point → ℤ
-level C f P = rounded (jet C f P .height)
+unfoldable pub levelOf : Cell → Cubic → Point → ℤ
+levelOf C f P = rounded (jet C f P .height)
 
 -- 01's tilt (the gradient): the slopes, in grains per pixel
-unfoldable pub tiltX : Cell → Cubic → Point → ℤ
-tiltX C f P = rounded (jet C f P .xSlope)
+unfoldable pub tiltXOf : Cell → Cubic → Point → ℤ
+tiltXOf C f P = rounded (jet C f P .xSlope)
 
-unfoldable pub tiltY : Cell → Cubic → Point → ℤ
-tiltY C f P = rounded (jet C f P .ySlope)
+unfoldable pub tiltYOf : Cell → Cubic → Point → ℤ
+tiltYOf C f P = rounded (jet C f P .ySlope)
 
 -- 01's bend: the second derivatives, in 1/64 grain per pixel per pixel
-unfoldable pub bendXX : Cell → Cubic → Point → ℤ
-bendXX C f P = rounded (pos 64 ·ℚ bend C f P .xx)
+unfoldable pub bendXXOf : Cell → Cubic → Point → ℤ
+bendXXOf C f P = rounded (pos 64 ·ℚ bend C f P .xx)
 
-unfoldable pub bendXY : Cell → Cubic → Point → ℤ
-bendXY C f P = rounded (pos 64 ·ℚ bend C f P .xy)
+unfoldable pub bendXYOf : Cell → Cubic → Point → ℤ
+bendXYOf C f P = rounded (pos 64 ·ℚ bend C f P .xy)
 
-unfoldable pub bendYY : Cell → Cubic → Point → ℤ
-bendYY C f P = rounded (pos 64 ·ℚ bend C f P .yy)
+unfoldable pub bendYYOf : Cell → Cubic → Point → ℤ
+bendYYOf C f P = rounded (pos 64 ·ℚ bend C f P .yy)
 
 infix 20 _withinℚ_
 -- −y ≤ x ≤ y
@@ -39,9 +39,9 @@ pub record HalfUnit : Type 0 where
   -- a fraction moves by at most half a unit
   pub distances : (x : ℚ) → whole (rounded x) -ℚ x withinℚ half
   -- so every reading lies within half a unit of the exact value
-  pub levels : (C : Cell) (f : Cubic) (P : Point) → whole (level C f P) -ℚ jet C f P .height withinℚ half
-  pub tiltsX : (C : Cell) (f : Cubic) (P : Point) → whole (tiltX C f P) -ℚ jet C f P .xSlope withinℚ half
-  pub tiltsY : (C : Cell) (f : Cubic) (P : Point) → whole (tiltY C f P) -ℚ jet C f P .ySlope withinℚ half
-  pub bendsXX : (C : Cell) (f : Cubic) (P : Point) → whole (bendXX C f P) -ℚ pos 64 ·ℚ bend C f P .xx withinℚ half
-  pub bendsXY : (C : Cell) (f : Cubic) (P : Point) → whole (bendXY C f P) -ℚ pos 64 ·ℚ bend C f P .xy withinℚ half
-  pub bendsYY : (C : Cell) (f : Cubic) (P : Point) → whole (bendYY C f P) -ℚ pos 64 ·ℚ bend C f P .yy withinℚ half
+  pub levels : (C : Cell) (f : Cubic) (P : Point) → whole (levelOf C f P) -ℚ jet C f P .height withinℚ half
+  pub tiltsX : (C : Cell) (f : Cubic) (P : Point) → whole (tiltXOf C f P) -ℚ jet C f P .xSlope withinℚ half
+  pub tiltsY : (C : Cell) (f : Cubic) (P : Point) → whole (tiltYOf C f P) -ℚ jet C f P .ySlope withinℚ half
+  pub bendsXX : (C : Cell) (f : Cubic) (P : Point) → whole (bendXXOf C f P) -ℚ pos 64 ·ℚ bend C f P .xx withinℚ half
+  pub bendsXY : (C : Cell) (f : Cubic) (P : Point) → whole (bendXYOf C f P) -ℚ pos 64 ·ℚ bend C f P .xy withinℚ half
+  pub bendsYY : (C : Cell) (f : Cubic) (P : Point) → whole (bendYYOf C f P) -ℚ pos 64 ·ℚ bend C f P .yy withinℚ half

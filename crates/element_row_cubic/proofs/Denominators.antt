@@ -8,8 +8,8 @@ use Rattle.integers.specs.Within.{_within_}
 use Rattle.integers.specs.Ratio.{Denominates}
 use Rattle.integers.proofs.Order.{<→<ℤ}
 use Rattle.integers.proofs.Bounds.{within-self, within-*}
-use Rattle.element_corners.specs.Held.{Side, cell}
-use Rattle.element_corners.proofs.Sides.{cube-within, side-is}
+use Rattle.element_cell.specs.Cell.{Side, cell}
+use Rattle.element_cell.proofs.Sides.{cube-within, side-is}
 use Rattle.element_row_cubic.specs.Row.{cubesOf}
 
 pub cubes-are : {w h : ℕ} → Side w → Side h → cubesOf (cell w h) .number ≡ w * w * w * (h * h * h)

@@ -9,7 +9,7 @@ use Rattle.integers.specs.Round.{round}
 use Rattle.element_sibson.specs.Fraction.{Positive, ℚ, _≈_, _*⁺_, whole, _÷_}
 use Rattle.element_sibson.specs.Cubic.{Cell, pixel, Cubic, value, jet}
 use Rattle.element_sibson.proofs.Quote.{Quotient, _/ₑ_, valueₑ, equal, anyₑ, cubic}
-use Rattle.element_readings.specs.Reading.{rounded, level}
+use Rattle.element_readings.specs.Reading.{rounded, levelOf}
 use Rattle.element_readings.proofs.Rounded.{rounded-≈}
 use Rattle.element_row_cubic.specs.Row.{down, alongRow, atOffset, cubesOf, Rows}
 
@@ -45,8 +45,8 @@ pub rounded-over : {x : ℚ} (n : ℤ) (d : Positive) → x ≈ whole n ÷ d →
 unfolding rounded
 rounded-over n d e = rounded-≈ e ∙ ap (round n) (one-mul (d .number))
 
-levels : (C : Cell) (f : Cubic) (a b : ℕ) → level C f (pixel C a b) ≡ round (atOffset (alongRow C f b) a) (f .divisor .number * cubesOf C .number)
-unfolding level jet
+levels : (C : Cell) (f : Cubic) (a b : ℕ) → levelOf C f (pixel C a b) ≡ round (atOffset (alongRow C f b) a) (f .divisor .number * cubesOf C .number)
+unfolding levelOf jet
 levels C f a b = rounded-over (atOffset (alongRow C f b) a) (f .divisor *⁺ cubesOf C) (heights C f a b)
 
 pub rows : Rows

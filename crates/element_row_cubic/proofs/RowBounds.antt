@@ -9,11 +9,11 @@ use lib.IntN.{ℤ, pos, natAbs}
 use Rattle.integers.specs.Within.{_within_}
 use Rattle.integers.proofs.Bounds.{within-self, within-mono, within-+, within-*}
 use Rattle.element_sibson.specs.Cubic.{Cell, Cubic}
-use Rattle.element_readings.specs.Bounds.{largest, listed, size}
+use Rattle.element_cell.specs.Cell.{Side, cell}
+use Rattle.element_cell.specs.Corners.{largest}
+use Rattle.element_cell.specs.Coefficients.{listed, size, halves, Sized}
+use Rattle.element_cell.proofs.Sides.{length-within, square-within, cube-within, side-is}
 use Rattle.element_row_cubic.specs.Row.{down, alongRow, reach}
-use Rattle.element_corners.specs.Held.{Side, cell}
-use Rattle.element_turnings.specs.Doubled.{halves, Sized}
-use Rattle.element_corners.proofs.Sides.{length-within, square-within, cube-within, side-is}
 
 -- the first four
 unfoldable four : List ℤ → ℕ

@@ -7,7 +7,7 @@ use lib.ListN.{getD}
 use Rattle.integers.specs.Round.{round}
 use Rattle.element_sibson.specs.Fraction.{Positive, _*⁺_, _≈_, whole, _÷_}
 use Rattle.element_sibson.specs.Cubic.{Cell, pixel, Cubic, value}
-use Rattle.element_readings.specs.Reading.{level}
+use Rattle.element_readings.specs.Reading.{levelOf}
 
 -- c₀ + c₁ s + c₂ s² + c₃ s³ at s = b/h, times h³; one that is not listed is 0
 unfoldable pub down : List ℤ → ℕ → ℕ → ℤ
@@ -33,7 +33,7 @@ cubesOf C = C .W *⁺ C .W *⁺ C .W *⁺ (C .H *⁺ C .H *⁺ C .H)
 pub record Rows : Type 0 where
   pub heights : (C : Cell) (f : Cubic) (a b : ℕ) → value f (pixel C a b) ≈ whole (atOffset (alongRow C f b) a) ÷ (f .divisor *⁺ cubesOf C)
   -- so a level takes the value at its offset and one rounding
-  pub levels : (C : Cell) (f : Cubic) (a b : ℕ) → level C f (pixel C a b) ≡ round (atOffset (alongRow C f b) a) (f .divisor .number * cubesOf C .number)
+  pub levels : (C : Cell) (f : Cubic) (a b : ℕ) → levelOf C f (pixel C a b) ≡ round (atOffset (alongRow C f b) a) (f .divisor .number * cubesOf C .number)
 
 -- what bounds the cubic, and each part of it in Horner's rule, at offsets up to 64: p₀ + 64 (p₁ + 64 (p₂ + 64 p₃)) without signs
 unfoldable pub reach : List ℤ → ℕ

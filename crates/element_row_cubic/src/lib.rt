@@ -4,14 +4,14 @@ pub mod theorems;
 ghost use mathlib.Core.Path.{_≡_};
 ghost use Prim.Native.Nat.{_*_, _^_, _≤_};
 ghost use lib.IntN.{pos};
-ghost use Rattle.element_readings.specs.Bounds.{largest, size};
-ghost use Rattle.element_corners.specs.Held.{Side, cell};
-ghost use Rattle.element_turnings.specs.Doubled.{halves, Sized};
+ghost use Rattle.element_cell.specs.Cell.{Side, cell};
+ghost use Rattle.element_cell.specs.Corners.{largest};
+ghost use Rattle.element_cell.specs.Coefficients.{size, halves, Sized};
 ghost use Rattle.element_row_cubic.specs.Row.{down, alongRow, atOffset, cubesOf, reach};
 ghost use Rattle.element_row_cubic.specs.Steps.{differences, stepped, Steps};
-use element_corners::lengths::cube;
-use element_corners::lengths::length;
-use element_corners::lengths::square;
+use element_cell::lengths::cube;
+use element_cell::lengths::length;
+use element_cell::lengths::square;
 
 // Its four coefficients, b pixels from the top edge.
 pub fn along_row(k: [i64; 10], b: usize, width: usize, height: usize) -> [i64; 4]

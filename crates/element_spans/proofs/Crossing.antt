@@ -9,8 +9,8 @@ use native.Mathlib.Numerals.{add-one}
 use native.Mathlib.Omega.{arith}
 use borrow.Author.Tests.{le-leb, lt-leb}
 use Rattle.element_sibson.specs.Piece.{Piece, top, right, bottom, left}
-use Rattle.element_evaluation.specs.Pixels.{Inside}
-use Rattle.element_evaluation.specs.declared.Pixel.{Pixel}
+use Rattle.element_cell.specs.Cell.{PixelInCell}
+use Rattle.element_cell.specs.declared.Pixel.{Pixel}
 use Rattle.element_spans.specs.Span.{ceiling, endOf}
 use Rattle.element_spans.specs.Ends.{upperHalf, middleOf}
 use Rattle.element_spans.proofs.Divisions.{below-floor, below-ceiling, from-floor, from-ceiling, floor-mirrored, ceiling-mirrored}
@@ -40,7 +40,7 @@ module _ (p : Pixel) where
   pub lower-half : 0 < p .width → p .height < 2 * p .b → p .width * p .height < 2 * (p .b * p .width)
   lower-half w h = omega (arith, w, mul-le-mul-right (p .width) h, suc-mul (p .height) (p .width), mul-assoc 2 (p .b) (p .width), mul-comm (p .width) (p .height))
 
-module _ (p : Pixel) (i : Inside p) where
+module _ (p : Pixel) (i : PixelInCell p) where
   -- s is at most 1
   pub height-fits : p .b * p .width ≤ p .width * p .height
   height-fits = omega (arith, mul-le-mul-right (p .width) (i .down), mul-comm (p .width) (p .height))

@@ -5,8 +5,8 @@ use native.Mathlib.Decide.{decLe}
 use native.Mathlib.Nat.{suc-mul, mul-comm, mul-le-mul-right}
 use native.Mathlib.Omega.{arith}
 use Rattle.element_sibson.specs.Piece.{Piece, top, right, bottom, left}
-use Rattle.element_evaluation.specs.Pixels.{Inside}
-use Rattle.element_evaluation.specs.declared.Pixel.{Pixel}
+use Rattle.element_cell.specs.Cell.{PixelInCell}
+use Rattle.element_cell.specs.declared.Pixel.{Pixel}
 use Rattle.element_spans.specs.Span.{toRight, pixelPiece, endOf, SpanLaws}
 use Rattle.element_spans.proofs.Divisions.{below-floor, below-ceiling}
 use Rattle.element_spans.proofs.InRow.{inside-at}
@@ -37,7 +37,7 @@ module _ (p : Pixel) (high : 0 < p .height) where
   beyond-cell left l e = omega (arith, below-ceiling high .0 e, suc-mul (p .width) (p .height))
 
 -- the piece k holds the pixel
-held-by : (p : Pixel) → Inside p → {k : Piece} → pixelPiece p ≡ k → At p k (p .a)
+held-by : (p : Pixel) → PixelInCell p → {k : Piece} → pixelPiece p ≡ k → At p k (p .a)
 held-by p i e = subst (λ k. At p k (p .a)) e (piece-holds p i)
 
 pub span-laws : SpanLaws

@@ -4,7 +4,7 @@ use Prim.Native.Nat.{ℕ, _-_, _≤_, _<_, min}
 use mathlib.Core.Path.{_≡_, sym}
 use native.Mathlib.Omega.{arith}
 use Rattle.element_sibson.specs.Piece.{left, right}
-use Rattle.element_evaluation.specs.declared.Pixel.{Pixel}
+use Rattle.element_cell.specs.declared.Pixel.{Pixel}
 use Rattle.element_spans.specs.Span.{toRight, pixelPiece, endOf}
 use Rattle.element_spans.specs.Ends.{middleOf}
 use Rattle.element_spans.specs.Needs.{FitsCell}

@@ -4,9 +4,9 @@ use mathlib.Core.Path.{_≡_, subst}
 use native.Mathlib.Decide.{decLe}
 use native.Mathlib.Omega.{arith}
 use Rattle.element_sibson.specs.Piece.{Piece, top, right, bottom, left}
-use Rattle.element_evaluation.specs.Pixels.{Inside}
-use Rattle.element_evaluation.specs.declared.Pixel.{Pixel}
-use Rattle.surface_places.proofs.Pieces.{at-top, at-right, at-bottom, at-left}
+use Rattle.element_cell.specs.Cell.{PixelInCell}
+use Rattle.element_cell.specs.declared.Pixel.{Pixel}
+use Rattle.element_cell.proofs.Pieces.{at-top, at-right, at-bottom, at-left}
 use Rattle.element_spans.specs.Span.{pixelPiece}
 
 abbrev Holds : Piece → ℕ → ℕ → ℕ → Type 0
@@ -26,7 +26,7 @@ some-piece x y q =
       | no h ↦ elim (decLe q (x + y)) [ yes l ↦ (bottom, (omega arith, l)) | no l ↦ (left, (omega arith, omega arith)) ]
     ]
 
-module _ (p : Pixel) (i : Inside p) where
+module _ (p : Pixel) (i : PixelInCell p) where
   pub piece-is : (k : Piece) → At p k (p .a) → k ≡ pixelPiece p
   piece-is top h = at-top p i (h .0) (h .1)
   piece-is right h = at-right p i (h .0) (h .1)

@@ -3,7 +3,7 @@ use Prim.Native.Nat.{_*_}
 use mathlib.Core.Bool.{Bool, cond}
 use lib.Dec.{leb}
 use Rattle.element_sibson.specs.Piece.{Piece, top, bottom, left}
-use Rattle.element_evaluation.specs.declared.Pixel.{Pixel}
+use Rattle.element_cell.specs.declared.Pixel.{Pixel}
 use Rattle.element_spans.specs.declared.Ends.{Ends}
 use Rattle.element_spans.specs.Span.{endOf}
 

@@ -6,9 +6,9 @@ use lib.IntN.{ℤ}
 use lib.ListN.{set}
 use Rattle.element_sibson.specs.Piece.{Piece, top, right, bottom, left, pieceAt}
 use Rattle.element_sibson.specs.Element.{CornerNumbers, sibson}
-use Rattle.element_readings.specs.Reading.{level}
-use Rattle.element_evaluation.specs.Pixels.{cellOf, pointOf, Inside}
-use Rattle.element_evaluation.specs.declared.Pixel.{Pixel}
+use Rattle.element_cell.specs.Cell.{pixelCell, pixelPoint, PixelInCell}
+use Rattle.element_cell.specs.declared.Pixel.{Pixel}
+use Rattle.element_readings.specs.Reading.{levelOf}
 
 -- the pixel k to the right
 abbrev pub toRight : Pixel → ℕ → Pixel
@@ -16,10 +16,10 @@ toRight p k = record { a = p .a + k; b = p .b; width = p .width; height = p .hei
 
 -- the piece of a pixel, and the level there of the set we read from with these corner numbers
 abbrev pub pixelPiece : Pixel → Piece
-pixelPiece p = pieceAt (pointOf p)
+pixelPiece p = pieceAt (pixelPoint p)
 
 unfoldable pub cellLevel : CornerNumbers → Pixel → ℤ
-cellLevel n p = level (cellOf p) (sibson n (pixelPiece p)) (pointOf p)
+cellLevel n p = levelOf (pixelCell p) (sibson n (pixelPiece p)) (pixelPoint p)
 
 -- n / d, rounded up
 unfoldable pub ceiling : ℕ → ℕ → ℕ
@@ -35,13 +35,13 @@ endOf left p = ceiling (min (p .b * p .width) (p .width * p .height - p .b * p .
 
 -- a pixel's piece holds the pixels of the cell to its right that lie before that end, and none from there on; the end is no further than the cell's
 pub record SpanLaws : Type 0 where
-  pub starts : (p : Pixel) → Inside p → p .a < endOf (pixelPiece p) p
-  pub within : (p : Pixel) → Inside p → endOf (pixelPiece p) p ≤ suc (p .width)
-  pub same : (p : Pixel) (k : ℕ) → Inside (toRight p k) → p .a + k < endOf (pixelPiece p) p → pixelPiece (toRight p k) ≡ pixelPiece p
-  pub beyond : (p : Pixel) (k : ℕ) → Inside (toRight p k) → endOf (pixelPiece p) p ≤ p .a + k → ¬ (pixelPiece (toRight p k) ≡ pixelPiece p)
+  pub starts : (p : Pixel) → PixelInCell p → p .a < endOf (pixelPiece p) p
+  pub within : (p : Pixel) → PixelInCell p → endOf (pixelPiece p) p ≤ suc (p .width)
+  pub same : (p : Pixel) (k : ℕ) → PixelInCell (toRight p k) → p .a + k < endOf (pixelPiece p) p → pixelPiece (toRight p k) ≡ pixelPiece p
+  pub beyond : (p : Pixel) (k : ℕ) → PixelInCell (toRight p k) → endOf (pixelPiece p) p ≤ p .a + k → ¬ (pixelPiece (toRight p k) ≡ pixelPiece p)
   -- no row has pixels of top and of bottom, so it has three spans at most
-  pub topOnly : (p : Pixel) (k : ℕ) → Inside (toRight p k) → pixelPiece p ≡ top → ¬ (pixelPiece (toRight p k) ≡ bottom)
-  pub bottomOnly : (p : Pixel) (k : ℕ) → Inside (toRight p k) → pixelPiece p ≡ bottom → ¬ (pixelPiece (toRight p k) ≡ top)
+  pub topOnly : (p : Pixel) (k : ℕ) → PixelInCell (toRight p k) → pixelPiece p ≡ top → ¬ (pixelPiece (toRight p k) ≡ bottom)
+  pub bottomOnly : (p : Pixel) (k : ℕ) → PixelInCell (toRight p k) → pixelPiece p ≡ bottom → ¬ (pixelPiece (toRight p k) ≡ top)
 
 -- ---- places of a lent row
 

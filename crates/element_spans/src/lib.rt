@@ -6,17 +6,16 @@ ghost use Prim.Native.Nat.{_+_, _-_, _/_, _^_, _≤_, _<_, min};
 ghost use lib.IntN.{natAbs};
 ghost use lib.ListN.{length};
 ghost use Rattle.integers.specs.Round.{round};
-ghost use Rattle.element_readings.specs.Bounds.{largest, AllWithin};
 ghost use Rattle.element_sibson.specs.Element.{sibson};
-ghost use Rattle.element_corners.specs.Held.{corners};
+ghost use Rattle.element_cell.specs.Cell.{pixelCell, PixelInCell};
+ghost use Rattle.element_cell.specs.Corners.{corners, largest, AllWithin};
+ghost use Rattle.element_cell.specs.Pieces.{pieceOf};
 ghost use Rattle.element_row_cubic.specs.Row.{alongRow, atOffset};
-ghost use Rattle.element_pieces.specs.Parts as parts;
-ghost use Rattle.element_evaluation.specs.Pixels.{cellOf, Inside};
 ghost use Rattle.element_spans.specs.Span.{toRight, cellLevel, ceiling, laid};
 ghost use Rattle.element_spans.specs.Ends.{upperHalf, middleOf, endsOf};
-ghost use Rattle.element_spans.specs.Needs.{FitsCell, Small, Levels};
-use element_evaluation::Pixel;
-use element_pieces::Piece;
+ghost use Rattle.element_spans.specs.Needs.{FitsCell, LevelFits, FitsAlong};
+use element_cell::Piece;
+use element_cell::Pixel;
 use integers::Denominator;
 use integers::least;
 
@@ -59,7 +58,7 @@ pub fn fill_cell(row: &mut [i32], at: usize, count: usize, n: [[i64; 3]; 4], fir
 
 // One division gives both ends: the diagonals cross the row as far from the right edge as from the left.
 fn span_ends(p: Pixel) -> Ends
-    requires { ⌜ Inside p ⌝ }
+    requires { ⌜ PixelInCell p ⌝ }
     ensures { λ r. ⌜ r ≡ endsOf p ⌝ }
 {
     // s times the cell's area, and that over the height
@@ -97,8 +96,8 @@ fn before(end: usize, a: usize, count: usize) -> usize
 
 // The cubic of a piece along the pixel's row.
 fn cubic(n: [[i64; 3]; 4], piece: Piece, p: Pixel) -> [i64; 4]
-    requires { ⌜ AllWithin largest (corners n) × Inside p ⌝ }
-    ensures { λ r. ⌜ r ≡ alongRow (cellOf p) (sibson (corners n) (parts.pieceOf piece)) (p .b) ⌝ }
+    requires { ⌜ AllWithin largest (corners n) × PixelInCell p ⌝ }
+    ensures { λ r. ⌜ r ≡ alongRow (pixelCell p) (sibson (corners n) (pieceOf piece)) (p .b) ⌝ }
 {
     element_row_cubic::along_row(
         element_pieces::coefficients(n, piece),
@@ -110,8 +109,8 @@ fn cubic(n: [[i64; 3]; 4], piece: Piece, p: Pixel) -> [i64; 4]
 
 // The same of the piece between left and right. Each is named by itself, so that the compiler folds its weights.
 fn middle_cubic(n: [[i64; 3]; 4], upper: bool, p: Pixel) -> [i64; 4]
-    requires { ⌜ AllWithin largest (corners n) × Inside p × (upper ≡ upperHalf p) ⌝ }
-    ensures { λ r. ⌜ r ≡ alongRow (cellOf p) (sibson (corners n) (middleOf p)) (p .b) ⌝ }
+    requires { ⌜ AllWithin largest (corners n) × PixelInCell p × (upper ≡ upperHalf p) ⌝ }
+    ensures { λ r. ⌜ r ≡ alongRow (pixelCell p) (sibson (corners n) (middleOf p)) (p .b) ⌝ }
 {
     if upper {
         return cubic(n, Piece::Top, p);
@@ -129,7 +128,7 @@ fn fill_levels(
     offset: usize,
     d: Denominator,
 )
-    requires { ⌜ Levels cubic offset count d × (at + count ≤ length (now row)) ⌝ }
+    requires { ⌜ FitsAlong cubic offset count d × (at + count ≤ length (now row)) ⌝ }
     ensures { λ _. ⌜ now (row .exit) ≡ laid (λ k. round (atOffset cubic (offset + k)) (natAbs (d .value))) at count (now (row .entry)) ⌝ }
 {
     if count == 0 {
@@ -138,15 +137,15 @@ fn fill_levels(
     let mut z = element_row_cubic::differences(cubic, offset);
     let mut k: usize = 0;
     while k < count {
-        row[at + k] = level(z[0], d);
+        row[at + k] = rounded_level(z[0], d);
         z = element_row_cubic::stepped(z);
         k += 1;
     }
 }
 
 // One level: a numerator over the denominator.
-fn level(n: i64, d: Denominator) -> i32
-    requires { ⌜ Small n d ⌝ }
+fn rounded_level(n: i64, d: Denominator) -> i32
+    requires { ⌜ LevelFits n d ⌝ }
     ensures { λ r. ⌜ r ≡ round n (natAbs (d .value)) ⌝ }
 {
     d.round_small(n) as i32

@@ -2,8 +2,8 @@
 use mathlib.Core.Path.{_≡_}
 use Rattle.element_sibson.specs.Piece.{Piece}
 use Rattle.element_sibson.specs.Element.{CornerNumbers, sibson}
-use Rattle.element_readings.specs.Bounds.{largest, AllWithin, listed}
-use Rattle.element_turnings.specs.Doubled.{halves, Sized}
+use Rattle.element_cell.specs.Corners.{largest, AllWithin}
+use Rattle.element_cell.specs.Coefficients.{listed, halves, Sized}
 
 pub record Joined : Type 0 where
   -- the cubic whose doubled coefficients they are is the piece

@@ -1,2 +1,1 @@
-pub mod Doubled
 pub mod Joined

@@ -3,8 +3,7 @@ pub mod theorems;
 
 ghost use mathlib.Core.Path.{_≡_};
 ghost use Rattle.element_sibson.specs.Element.{transposed, flipped, mirrored};
-ghost use Rattle.element_readings.specs.Bounds.{listed};
-ghost use Rattle.element_turnings.specs.Doubled.{halves, Sized};
+ghost use Rattle.element_cell.specs.Coefficients.{listed, halves, Sized};
 
 // The cubic at (s, r).
 pub fn transposed(k: [i64; 10]) -> [i64; 10]

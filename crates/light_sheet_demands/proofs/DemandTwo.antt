@@ -15,8 +15,7 @@ use Rattle.element_sibson.specs.Fraction.{ℚ, _≈_, _+ℚ_, whole, half}
 use Rattle.element_sibson.specs.Element.{element}
 use Rattle.element_sibson.proofs.Derivatives.{derivatives}
 use Rattle.element_nistir_6718.proofs.Printed.{sources}
-use Rattle.element_readings.specs.Reading as reading
-use Rattle.element_readings.specs.Reading.{rounded}
+use Rattle.element_readings.specs.Reading.{levelOf, tiltXOf, tiltYOf, bendXXOf, bendXYOf, bendYYOf, rounded}
 use Rattle.element_readings.proofs.Rounded.{half-unit}
 use Rattle.sheet_calls.proofs.Chains.{reading-taken}
 use Rattle.sheet_calls.proofs.Setting.{setting-laws}
@@ -45,7 +44,7 @@ stored-first {array} c e = let z = sym (c .answer) in let n = all-values (c .isR
     rw (c .values, ← n) (over-first _ array (omega (arith, e, n, kind-held (c .isRead) z)))
 
 pub demand-two : DemandTwo
-unfolding outcome answered element reading.level reading.tiltX reading.tiltY reading.bendXX reading.bendXY reading.bendYY setOf levelAt tiltXAt tiltYAt bendXXAt bendXYAt bendYYAt level tiltX tiltY bendXX bendXY bendYY
+unfolding outcome answered element levelOf tiltXOf tiltYOf bendXXOf bendXYOf bendYYOf setOf levelAt tiltXAt tiltYAt bendXXAt bendXYAt bendYYAt level tiltX tiltY bendXX bendXY bendYY
 demand-two = record {
   levels = λ a i c. read-laws .level _ _ _ (reading-taken (record { accepted = a; inside = i; kind = lit≤ tt })) _ (c .answer);
   tilts = λ a i c. read-laws .tilt _ _ _ (reading-taken (record { accepted = a; inside = i; kind = lit≤ tt })) _ (c .answer);

@@ -18,14 +18,14 @@ use lib.Ieee.Exact.{HasValue, round-exact}
 use lib.Ieee.Fits.{down-pos}
 use lib.Ieee.Scale.{round-same}
 use Rattle.element_sibson.specs.Fraction.{Positive}
-use Rattle.surface_answers.specs.Answers.{divisor, quotient, Small}
+use Rattle.surface_answers.specs.Answers.{divisor, quotient, FitsFloat}
 use Rattle.surface_answers.specs.AnswerLaws.{negative}
 
 -- ---- the code
 
 -- the machine reads z back from its bits
-back : (z : ℤ) → Small z → toZ w64 (ofZ w64 z) ≡ z
-unfolding Small
+back : (z : ℤ) → FitsFloat z → toZ w64 (ofZ w64 z) ≡ z
+unfolding FitsFloat
 back z h = toZ-ofZ w64 z (record { sfits = near z h })
   where
     near : (z : ℤ) → natAbs z < 2 ^ 53 → mag z < 2 ^ 63
@@ -33,8 +33,8 @@ back z h = toZ-ofZ w64 z (record { sfits = near z h })
     near (negsuc n) h = omega arith
 
 -- the cast of z is defined
-pub in-float : (z : ℤ) → Small z → T (inFloat binary64 (toZ w64 (ofZ w64 z)))
-unfolding inFloat Small
+pub in-float : (z : ℤ) → FitsFloat z → T (inFloat binary64 (toZ w64 (ofZ w64 z)))
+unfolding inFloat FitsFloat
 in-float z h = rw (back z h) (near z h)
   where
     near : (z : ℤ) → natAbs z < 2 ^ 53 → T (inFloat binary64 z)
@@ -54,7 +54,7 @@ bits-divisor (suc zero) = refl
 bits-divisor (suc (suc k)) = refl
 
 -- z as the machine divides it is the quotient of the definition
-pub divides : (kind : ℕ) (z : ℤ) → Small z → div binary64 (ofInt binary64 (toZ w64 (ofZ w64 z))) (ofBits binary64 (bits kind)) ≡ quotient (divisor kind) z
+pub divides : (kind : ℕ) (z : ℤ) → FitsFloat z → div binary64 (ofInt binary64 (toZ w64 (ofZ w64 z))) (ofBits binary64 (bits kind)) ≡ quotient (divisor kind) z
 unfolding quotient
 divides kind z h = rw (back z h, bits-divisor kind)
 
@@ -117,13 +117,13 @@ module _ (d : Positive) (k : ℕ) (power : d .number ≡ 2 ^ k) (small : k < 53)
       rw (divided s n (d .number) (d .above) _ _ (whole-value s n h) (whole-value false (d .number) (subst⁻¹ (λ (x : ℕ). x < 2 ^ 53) power (pow-lt small))))
       (round-exact binary64 s n (d .number) n (1074 - k) (d .above) h (in-range n (1074 - k) h (omega arith)) (units n))
 
-  exact : (z : ℤ) → Small z → HasValue (quotient d z) (negative z) (natAbs z) (d .number)
-  unfolding quotient ofInt Small
+  exact : (z : ℤ) → FitsFloat z → HasValue (quotient d z) (negative z) (natAbs z) (d .number)
+  unfolding quotient ofInt FitsFloat
   exact (pos n) h = exact-by false n (omega arith)
   exact (negsuc n) h = exact-by true (suc n) (omega arith)
 
 -- a small whole number's quotient by a kind's divisor has its sign and its size over the divisor
-pub quotient-value : (kind : ℕ) (z : ℤ) → Small z → HasValue (quotient (divisor kind) z) (negative z) (natAbs z) (divisor kind .number)
+pub quotient-value : (kind : ℕ) (z : ℤ) → FitsFloat z → HasValue (quotient (divisor kind) z) (negative z) (natAbs z) (divisor kind .number)
 quotient-value zero z h = exact (divisor 0) 6 refl (lit< tt) z h
 quotient-value (suc zero) z h = exact (divisor 1) 6 refl (lit< tt) z h
 quotient-value (suc (suc k)) z h = exact (divisor 2) 12 refl (lit< tt) z h

@@ -11,7 +11,7 @@ use Rattle.integers.proofs.Solve.{_≐_, solve}
 use Rattle.integers.proofs.Deduce.{_·_, _⊨_, deduce}
 use Rattle.element_sibson.specs.Fraction.{Positive, ℚ, _≈_, whole, _·ℚ_, _÷_}
 use Rattle.element_sibson.proofs.Fractions.{≈-sym, ≈-trans, ≈-·}
-use Rattle.surface_answers.specs.Answers.{divisor, quotient, Small}
+use Rattle.surface_answers.specs.Answers.{divisor, quotient, FitsFloat}
 use Rattle.surface_answers.specs.AnswerLaws.{QuotientLaws, _is_, negative}
 use Rattle.surface_answers.proofs.Floats.{quotient-value, quotient-zero}
 
@@ -35,7 +35,7 @@ one-fraction (fin s m e) h k = ≈-trans (≈-sym h) k
 product : (d : Positive) (z : ℤ) → pos (d .number) ·ℚ (whole z ÷ d) ≈ whole z
 product d z = record { crossed = solve 2 (λ d z. d ⊗ z ⊗ # 1 ≐ z ⊗ (# 1 ⊗ d)) tt (pos (d .number)) z }
 
-exact : (kind : ℕ) (z : ℤ) → Small z → quotient (divisor kind) z is whole z ÷ divisor kind
+exact : (kind : ℕ) (z : ℤ) → FitsFloat z → quotient (divisor kind) z is whole z ÷ divisor kind
 exact kind z h = is-fraction (divisor kind) z (quotient (divisor kind) z) (quotient-value kind z h)
 
 pub quotient-laws : QuotientLaws

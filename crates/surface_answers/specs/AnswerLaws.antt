@@ -7,7 +7,7 @@ use lib.Ieee.{Float, nan, inf, fin, up, down}
 use lib.Ieee.Exact.{HasValue}
 use lib.Ieee.Fits.{down-pos}
 use Rattle.element_sibson.specs.Fraction.{ℚ, _≈_, whole, _·ℚ_, _÷_}
-use Rattle.surface_answers.specs.Answers.{outcome, divisor, quotient, Small}
+use Rattle.surface_answers.specs.Answers.{outcome, divisor, quotient, FitsFloat}
 use Rattle.surface_answers.specs.declared.Answer.{Answer}
 
 -- the number and the values tell answers apart
@@ -37,10 +37,10 @@ negative (negsuc n) = true
 -- a small whole number's quotient by the divisor of a reading kind
 pub record QuotientLaws : Type 0 where
   -- it is exact
-  pub exact : (kind : ℕ) (z : ℤ) → Small z → quotient (divisor kind) z is whole z ÷ divisor kind
+  pub exact : (kind : ℕ) (z : ℤ) → FitsFloat z → quotient (divisor kind) z is whole z ÷ divisor kind
   -- so its value times the divisor is the whole number
-  pub times : (kind : ℕ) (z : ℤ) → Small z → (x : ℚ) → quotient (divisor kind) z is x → pos (divisor kind .number) ·ℚ x ≈ whole z
+  pub times : (kind : ℕ) (z : ℤ) → FitsFloat z → (x : ℚ) → quotient (divisor kind) z is x → pos (divisor kind .number) ·ℚ x ≈ whole z
   -- the same in the kit's words: finite, with z's sign, |z| over the divisor in size
-  pub kit : (kind : ℕ) (z : ℤ) → Small z → HasValue (quotient (divisor kind) z) (negative z) (natAbs z) (divisor kind .number)
+  pub kit : (kind : ℕ) (z : ℤ) → FitsFloat z → HasValue (quotient (divisor kind) z) (negative z) (natAbs z) (divisor kind .number)
   -- of 0 it is +0
   pub zero : (kind : ℕ) → quotient (divisor kind) (pos 0) ≡ fin false 0 (pos 0)

@@ -37,5 +37,5 @@ unfoldable pub refused : ℕ → Outcome
 refused n = record { number = n; values = [] }
 
 -- a 64-bit float holds it exactly, as all whole numbers below 2⁵³ either way
-unfoldable pub Small : ℤ → Type 0
-Small z = natAbs z < 2 ^ 53
+unfoldable pub FitsFloat : ℤ → Type 0
+FitsFloat z = natAbs z < 2 ^ 53

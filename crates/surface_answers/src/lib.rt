@@ -3,7 +3,7 @@ pub mod theorems;
 
 ghost use mathlib.Core.Path.{_≡_};
 ghost use mathlib.Core.List.{[], _∷_};
-ghost use Rattle.surface_answers.specs.Answers.{outcome, answered, Small};
+ghost use Rattle.surface_answers.specs.Answers.{outcome, answered, FitsFloat};
 
 // One of three readings, in steps, in steps per pixel and in steps per pixel per pixel, or the number of a refusal.
 pub enum Answer {
@@ -41,7 +41,7 @@ impl LevelReading {
     }
 
     pub fn answer(self) -> Answer
-        requires { ⌜ Small (self .height) ⌝ }
+        requires { ⌜ FitsFloat (self .height) ⌝ }
         ensures { λ r. ⌜ outcome r ≡ answered 0 (self .height ∷ []) ⌝ }
     {
         Answer::Level(self.height as f64 / LevelReading::DIVISOR)
@@ -58,7 +58,7 @@ impl TiltReading {
     }
 
     pub fn answer(self) -> Answer
-        requires { ⌜ Small (self .x) × Small (self .y) ⌝ }
+        requires { ⌜ FitsFloat (self .x) × FitsFloat (self .y) ⌝ }
         ensures { λ r. ⌜ outcome r ≡ answered 1 (self .x ∷ self .y ∷ []) ⌝ }
     {
         Answer::Tilt(
@@ -82,7 +82,7 @@ impl BendReading {
     }
 
     pub fn answer(self) -> Answer
-        requires { ⌜ Small (self .xx) × Small (self .xy) × Small (self .yy) ⌝ }
+        requires { ⌜ FitsFloat (self .xx) × FitsFloat (self .xy) × FitsFloat (self .yy) ⌝ }
         ensures { λ r. ⌜ outcome r ≡ answered 2 (self .xx ∷ self .xy ∷ self .yy ∷ []) ⌝ }
     {
         Answer::Bend(

@@ -1,8 +1,9 @@
 // The corner numbers of a cell of an accepted sheet.
 ghost use mathlib.Core.Path.{_≡_};
 ghost use Rattle.element_sibson.specs.Element.{cornerNumbers};
+ghost use Rattle.element_cell.specs.Cell.{Side, cell};
+ghost use Rattle.element_cell.specs.Corners.{arrays};
 ghost use Rattle.sheet_calls.specs.Refusals.{Accepted};
-ghost use Rattle.element_corners.specs.Held.{arrays, Side, cell};
 ghost use Rattle.surface_of_sheet.specs.Place.{HasCell};
 ghost use Rattle.surface_of_sheet.specs.Surface.{nodesOf};
 use sheet_layout::node_numbers;

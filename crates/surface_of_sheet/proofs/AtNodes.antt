@@ -11,8 +11,8 @@ use Rattle.element_sibson.specs.Piece.{triangle, Corner, leftTop, rightTop, lef
 use Rattle.element_sibson.specs.Cubic.{jet, _≋_}
 use Rattle.element_sibson.specs.Theorems.{wholes}
 use Rattle.element_sibson.proofs.Covers.{covering}
-use Rattle.element_readings.specs.Bounds.{IsAt}
-use Rattle.element_readings.specs.Reading as reading
+use Rattle.element_readings.specs.CornerWeights.{IsAt}
+use Rattle.element_readings.specs.Reading.{levelOf, tiltXOf, tiltYOf}
 use Rattle.element_readings.proofs.AtCorners.{at-node, at-corners}
 use Rattle.element_readings.proofs.Rounded.{rounded-whole}
 use Rattle.sheet_layout.specs.Format.{columns, rows, lineX, lineY, Node, grainsPerStep, heightAt, slopeXAt, slopeYAt}
@@ -92,15 +92,15 @@ module _ (s : List ℕ) (i j : ℕ) (accepted : Accepted s) (l : i < columns s) 
       (at-node (cellAt s p) (nodesOf s (p .column) (p .row)) (p .piece) (c .corner) (pointAt s p) (in-piece s x y) (c .there))
 
   node-level : level s x y ≡ heightAt s i j
-  unfolding wholes nodeNumbers jetAt level levelAt reading.level
+  unfolding wholes nodeNumbers jetAt level levelAt levelOf
   node-level = rounded-whole (node-jet .heights)
 
   node-tilt-x : tiltX s x y ≡ slopeXAt s i j
-  unfolding wholes nodeNumbers jetAt tiltX tiltXAt reading.tiltX
+  unfolding wholes nodeNumbers jetAt tiltX tiltXAt tiltXOf
   node-tilt-x = rounded-whole (node-jet .xSlopes)
 
   node-tilt-y : tiltY s x y ≡ slopeYAt s i j
-  unfolding wholes nodeNumbers jetAt tiltY tiltYAt reading.tiltY
+  unfolding wholes nodeNumbers jetAt tiltY tiltYAt tiltYOf
   node-tilt-y = rounded-whole (node-jet .ySlopes)
 
 -- ---- a node that is set

@@ -10,10 +10,10 @@ use Rattle.integers.proofs.Bounds.{within-*, is-within}
 use Rattle.element_sibson.specs.Cubic.{Jet}
 use Rattle.element_sibson.specs.Piece.{Corner, leftTop, rightTop, leftBottom, rightBottom}
 use Rattle.element_sibson.specs.Element.{cornerNumbers}
-use Rattle.element_readings.specs.Bounds.{largest, AllWithin}
-use Rattle.element_corners.specs.Held.{Side, side, cell, Measured}
-use Rattle.element_corners.proofs.Sides.{side-is}
-use Rattle.element_corners.proofs.Arrays.{measured-within}
+use Rattle.element_cell.specs.Cell.{Side, side, cell}
+use Rattle.element_cell.specs.Corners.{largest, AllWithin, Measured}
+use Rattle.element_cell.proofs.Arrays.{measured-within}
+use Rattle.element_cell.proofs.Sides.{side-is}
 use Rattle.sheet_layout.specs.Format.{columns, rows, lineX, lineY, heightAt, slopeXAt, slopeYAt}
 use Rattle.sheet_calls.specs.Refusals.{Accepted}
 use Rattle.sheet_calls.specs.WellFormed.{Rising, WellFormed}

@@ -3,12 +3,11 @@ use Prim.Native.Nat.{ℕ, zero, suc, _+_}
 use mathlib.Core.Path.{refl, _∙_}
 use mathlib.Core.List.{List, map}
 use Rattle.element_sibson.specs.Fraction.{ℚ, whole, half, _-ℚ_}
-use Rattle.element_readings.specs.Reading as reading
-use Rattle.element_readings.specs.Reading.{rounded, _withinℚ_}
+use Rattle.element_readings.specs.Reading.{levelOf, tiltXOf, tiltYOf, bendXXOf, bendXYOf, bendYYOf, rounded, _withinℚ_}
 use Rattle.element_readings.proofs.Rounded.{half-unit}
 use Rattle.sheet_calls.specs.Refusals.{Accepted}
 use Rattle.sheet_calls.specs.WellFormed.{Inside}
-use Rattle.surface_answers.specs.Answers.{divisor, quotient, answered, Small}
+use Rattle.surface_answers.specs.Answers.{divisor, quotient, answered, FitsFloat}
 use Rattle.surface_answers.proofs.Quotients.{quotient-laws}
 use Rattle.surface_of_sheet.specs.Place.{place}
 use Rattle.surface_of_sheet.specs.Surface.{jetAt, levelAt, tiltXAt, tiltYAt, bendXXAt, bendXYAt, bendYYAt, level, tiltX, tiltY, bendXX, bendXY, bendYY}
@@ -18,18 +17,18 @@ use Rattle.surface_of_sheet.proofs.Answered.{read-is}
 use Rattle.surface_of_sheet.proofs.Runs.{run-laws}
 use Rattle.surface_of_sheet.proofs.Sizes.{level-below, small-level, small-tilts, small-bends}
 
-from-rounded : (kind : ℕ) (x : ℚ) → Small (rounded x) → HalfUnitFrom (divisor kind) (quotient (divisor kind) (rounded x)) x
+from-rounded : (kind : ℕ) (x : ℚ) → FitsFloat (rounded x) → HalfUnitFrom (divisor kind) (quotient (divisor kind) (rounded x)) x
 from-rounded kind x h = record { number = rounded x; float = quotient-laws .exact kind (rounded x) h; near = half-unit .distances x }
 
 module _ (s : List ℕ) (x y : ℕ) (accepted : Accepted s) (inside : Inside s x y) where
   each : (kind : ℕ) → EachPair (HalfUnitFrom (divisor kind)) (map (quotient (divisor kind)) (numbers s x y kind)) (exact s x y kind)
-  unfolding reading.level reading.tiltX reading.tiltY reading.bendXX reading.bendXY reading.bendYY levelAt tiltXAt tiltYAt bendXXAt bendXYAt bendYYAt level tiltX tiltY bendXX bendXY bendYY numbers exact
+  unfolding levelOf tiltXOf tiltYOf bendXXOf bendXYOf bendYYOf levelAt tiltXAt tiltYAt bendXXAt bendXYAt bendYYAt level tiltX tiltY bendXX bendXY bendYY numbers exact
   each zero = (from-rounded 0 _ (small-level s x y accepted inside), tt)
   each (suc zero) = let (a, b) = small-tilts s x y accepted inside in (from-rounded 1 _ a, (from-rounded 1 _ b, tt))
   each (suc (suc k)) = let (a, b, c) = small-bends s x y accepted inside in (from-rounded 2 _ a, (from-rounded 2 _ b, (from-rounded 2 _ c, tt)))
 
 near-level : (s : List ℕ) (x y : ℕ) → whole (level s x y) -ℚ jetAt s (place s x y) .height withinℚ half
-unfolding reading.level jetAt levelAt level
+unfolding levelOf jetAt levelAt level
 near-level s x y = half-unit .distances (jetAt s (place s x y) .height)
 
 pub half-units : HalfUnits

@@ -8,7 +8,7 @@ use Rattle.element_sibson.specs.Piece.{top, right, bottom, left, edge}
 use Rattle.element_sibson.specs.Theorems.{AgreeAlong}
 use Rattle.element_sibson.proofs.Unique.{existence}
 use Rattle.element_sibson.proofs.SharedEdges.{edges}
-use Rattle.element_corners.specs.Held.{cell}
+use Rattle.element_cell.specs.Cell.{cell}
 use Rattle.surface_of_sheet.specs.Place.{cellOf}
 use Rattle.surface_of_sheet.specs.Surface.{nodesOf, setOf}
 use Rattle.surface_of_sheet.specs.Theorems.{TheSet, SharedEdges}

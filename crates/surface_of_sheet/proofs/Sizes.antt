@@ -6,18 +6,19 @@ use lib.Dec.{lit≤}
 use lib.IntN.{ℤ, natAbs}
 use Rattle.element_sibson.specs.Cubic.{Cell}
 use Rattle.element_sibson.specs.Element.{CornerNumbers, cornerNumbers, element}
-use Rattle.element_readings.specs.Bounds.{largest, AllWithin, On}
+use Rattle.element_cell.specs.Corners.{largest, AllWithin}
+use Rattle.element_readings.specs.Bounds.{On}
 use Rattle.element_readings.proofs.Bounds.{bounds}
 use Rattle.sheet_calls.specs.Refusals.{Accepted}
 use Rattle.sheet_calls.specs.WellFormed.{Inside}
-use Rattle.surface_answers.specs.Answers.{Small}
+use Rattle.surface_answers.specs.Answers.{FitsFloat}
 use Rattle.surface_of_sheet.specs.Place.{Place, cellAt, pointAt, columnAt, rowAt, place}
 use Rattle.surface_of_sheet.specs.Surface.{nodesOf, setOf, levelAt, tiltXAt, tiltYAt, bendXXAt, bendXYAt, bendYYAt, level, tiltX, tiltY, bendXX, bendXY, bendYY}
 use Rattle.surface_of_sheet.proofs.Cells.{numbers-within}
 use Rattle.surface_of_sheet.proofs.Places.{has-cell, offset-across, offset-down}
 
-small : (z : ℤ) {n : ℕ} → natAbs z < n → n ≤ 2 ^ 53 → Small z
-unfolding Small
+small : (z : ℤ) {n : ℕ} → natAbs z < n → n ≤ 2 ^ 53 → FitsFloat z
+unfolding FitsFloat
 small z h l = lt-of-lt-of-le h l
 
 module _ (s : List ℕ) (x y : ℕ) (accepted : Accepted s) (inside : Inside s x y) where
@@ -43,17 +44,17 @@ module _ (s : List ℕ) (x y : ℕ) (accepted : Accepted s) (inside : Inside s x
   unfolding element setOf level levelAt
   level-below = bounds .levels C n all-within (p .piece) (pointAt s p) on-piece
 
-  pub small-level : Small (level s x y)
+  pub small-level : FitsFloat (level s x y)
   small-level = small (level s x y) level-below (lit≤ tt)
 
   pub tilts-below : (natAbs (tiltX s x y) < 2 ^ 27) × (natAbs (tiltY s x y) < 2 ^ 27)
   unfolding element setOf tiltX tiltY tiltXAt tiltYAt
   tilts-below = (bounds .tiltsX C n all-within (p .piece) (pointAt s p) (on-piece .inCell), bounds .tiltsY C n all-within (p .piece) (pointAt s p) (on-piece .inCell))
 
-  pub small-tilts : Small (tiltX s x y) × Small (tiltY s x y)
+  pub small-tilts : FitsFloat (tiltX s x y) × FitsFloat (tiltY s x y)
   small-tilts = (small (tiltX s x y) (tilts-below .0) (lit≤ tt), small (tiltY s x y) (tilts-below .1) (lit≤ tt))
 
-  pub small-bends : Small (bendXX s x y) × Small (bendXY s x y) × Small (bendYY s x y)
+  pub small-bends : FitsFloat (bendXX s x y) × FitsFloat (bendXY s x y) × FitsFloat (bendYY s x y)
   unfolding element setOf bendXX bendXY bendYY bendXXAt bendXYAt bendYYAt
   small-bends = (
     small (bendXX s x y) (bounds .bendsXX C n all-within (p .piece) (pointAt s p) (on-piece .inCell)) (lit≤ tt),

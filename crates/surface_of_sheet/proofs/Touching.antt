@@ -12,10 +12,10 @@ use Rattle.element_sibson.proofs.Fractions.{≈-refl}
 use Rattle.element_sibson.proofs.Jets.{≋-trans}
 use Rattle.element_sibson.proofs.Covers.{covering}
 use Rattle.element_sibson.proofs.Unique.{existence}
-use Rattle.element_readings.specs.Reading as reading
+use Rattle.element_cell.specs.Cell.{cell}
+use Rattle.element_readings.specs.Reading.{levelOf, tiltXOf, tiltYOf}
 use Rattle.element_readings.proofs.Bounds.{bounds}
 use Rattle.element_readings.proofs.Rounded.{rounded-≈}
-use Rattle.element_corners.specs.Held.{cell}
 use Rattle.sheet_layout.specs.Format.{columns, rows, lineX, lineY}
 use Rattle.sheet_calls.specs.Refusals.{Accepted}
 use Rattle.surface_of_sheet.specs.Place.{cellOf, Place, pointAt, columnAt, rowAt, place, seen, touches}
@@ -109,7 +109,7 @@ jets s p x y accepted h = let t = touched s p x y h in
 -- ---- so level and tilt are
 
 pub touching : Touching
-unfolding jetAt levelAt tiltXAt tiltYAt level tiltX tiltY reading.level reading.tiltX reading.tiltY
+unfolding jetAt levelAt tiltXAt tiltYAt level tiltX tiltY levelOf tiltXOf tiltYOf
 touching = record {
   jets = jets;
   levels = λ s p x y a t. rounded-≈ (jets s p x y a t .heights);

@@ -53,14 +53,14 @@ pub record Example : Type 0 where
   pub gives : Outcome
 
 -- the level, the tilt and the bend at a pixel, as whole numbers
-abbrev pub levelOf : List ℕ → ℕ → ℕ → ℤ → Example
-levelOf s x y z = record { sheet = s; x = x; y = y; kind = 0; gives = answered 0 (z ∷ []) }
+abbrev pub levelRow : List ℕ → ℕ → ℕ → ℤ → Example
+levelRow s x y z = record { sheet = s; x = x; y = y; kind = 0; gives = answered 0 (z ∷ []) }
 
-abbrev pub tiltOf : List ℕ → ℕ → ℕ → ℤ → ℤ → Example
-tiltOf s x y z w = record { sheet = s; x = x; y = y; kind = 1; gives = answered 1 (z ∷ w ∷ []) }
+abbrev pub tiltRow : List ℕ → ℕ → ℕ → ℤ → ℤ → Example
+tiltRow s x y z w = record { sheet = s; x = x; y = y; kind = 1; gives = answered 1 (z ∷ w ∷ []) }
 
-abbrev pub bendOf : List ℕ → ℕ → ℕ → ℤ → ℤ → ℤ → Example
-bendOf s x y xx xy yy = record { sheet = s; x = x; y = y; kind = 2; gives = answered 2 (xx ∷ xy ∷ yy ∷ []) }
+abbrev pub bendRow : List ℕ → ℕ → ℕ → ℤ → ℤ → ℤ → Example
+bendRow s x y xx xy yy = record { sheet = s; x = x; y = y; kind = 2; gives = answered 2 (xx ∷ xy ∷ yy ∷ []) }
 
 -- a refusal: its number and no values
 abbrev pub refusal : List ℕ → ℕ → ℕ → ℕ → ℕ → Example
@@ -70,40 +70,40 @@ refusal s x y kind n = record { sheet = s; x = x; y = y; kind = kind; gives = re
 abbrev pub starred : List Example
 starred =
     -- sheet A
-    levelOf sheetA 0 0 (+ 64) ∷
-    levelOf sheetA 1 0 (+ 32) ∷
-    levelOf sheetA 1 1 (+ 16) ∷
-    bendOf sheetA 1 1 (+ 0) (+ 3072) (+ 0) ∷
-    bendOf sheetA 0 0 (− 6144) (+ 0) (− 6144) ∷
+    levelRow sheetA 0 0 (+ 64) ∷
+    levelRow sheetA 1 0 (+ 32) ∷
+    levelRow sheetA 1 1 (+ 16) ∷
+    bendRow sheetA 1 1 (+ 0) (+ 3072) (+ 0) ∷
+    bendRow sheetA 0 0 (− 6144) (+ 0) (− 6144) ∷
     -- lines 0 and 4, only x-slope 00 is 64; 01 has bend xx, the others were worked out in exact fractions
-    levelOf (steep 4 64 0) 1 1 (+ 30) ∷
-    tiltOf (steep 4 64 0) 1 1 (+ 14) (− 12) ∷
-    bendOf (steep 4 64 0) 1 1 (− 2560) (+ 256) (− 768) ∷
+    levelRow (steep 4 64 0) 1 1 (+ 30) ∷
+    tiltRow (steep 4 64 0) 1 1 (+ 14) (− 12) ∷
+    bendRow (steep 4 64 0) 1 1 (− 2560) (+ 256) (− 768) ∷
     -- lines 0 and 2, x-slopes 00 of 1, 2, 3, −2 and −3
-    levelOf (steep 2 1 0) 1 0 (+ 0) ∷
-    levelOf (steep 2 2 0) 1 0 (+ 1) ∷
-    levelOf (steep 2 3 0) 1 0 (+ 1) ∷
-    levelOf (steep 2 254 255) 1 0 (+ 0) ∷
-    levelOf (steep 2 253 255) 1 0 (− 1) ∷
+    levelRow (steep 2 1 0) 1 0 (+ 0) ∷
+    levelRow (steep 2 2 0) 1 0 (+ 1) ∷
+    levelRow (steep 2 3 0) 1 0 (+ 1) ∷
+    levelRow (steep 2 254 255) 1 0 (+ 0) ∷
+    levelRow (steep 2 253 255) 1 0 (− 1) ∷
     -- a plane
-    levelOf plane 1 1 (+ 64) ∷ []
+    levelRow plane 1 1 (+ 64) ∷ []
 
 -- four cells, as the vectors have them, and refusals
 abbrev pub further : List Example
 further =
     -- in the first cell; on the line to its right; on the line below it; where the inner lines cross
-    bendOf fourCells 2 283 (+ 3727616) (+ 85) (+ 66787221) ∷
-    bendOf fourCells 4 283 (+ 177536) (− 85) (− 524736) ∷
-    bendOf fourCells 2 284 (+ 7282) (+ 87424) (− 151559) ∷
-    levelOf fourCells 4 284 (+ 0) ∷
-    tiltOf fourCells 4 284 (+ 0) (+ 4095) ∷
-    bendOf fourCells 4 284 (− 11007360) (− 174720) (− 68203) ∷
+    bendRow fourCells 2 283 (+ 3727616) (+ 85) (+ 66787221) ∷
+    bendRow fourCells 4 283 (+ 177536) (− 85) (− 524736) ∷
+    bendRow fourCells 2 284 (+ 7282) (+ 87424) (− 151559) ∷
+    levelRow fourCells 4 284 (+ 0) ∷
+    tiltRow fourCells 4 284 (+ 0) (+ 4095) ∷
+    bendRow fourCells 4 284 (− 11007360) (− 174720) (− 68203) ∷
     -- in the last cell, on a diagonal of it, and on the outermost lines
-    levelOf fourCells 6 285 (− 144896) ∷
-    bendOf fourCells 5 285 (− 3727360) (+ 3603570) (− 22734) ∷
-    bendOf fourCells 7 285 (+ 7432896) (+ 87360) (+ 3901170) ∷
-    bendOf fourCells 5 287 (− 182002) (+ 43) (− 3710087) ∷
-    tiltOf fourCells 7 287 (+ 0) (+ 1) ∷
+    levelRow fourCells 6 285 (− 144896) ∷
+    bendRow fourCells 5 285 (− 3727360) (+ 3603570) (− 22734) ∷
+    bendRow fourCells 7 285 (+ 7432896) (+ 87360) (+ 3901170) ∷
+    bendRow fourCells 5 287 (− 182002) (+ 43) (− 3710087) ∷
+    tiltRow fourCells 7 287 (+ 0) (+ 1) ∷
     -- refused: outside; outside and of no kind; of no kind; no sheet
     refusal fourCells 8 285 0 7 ∷
     refusal fourCells 4 288 3 7 ∷

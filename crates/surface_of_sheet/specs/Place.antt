@@ -5,7 +5,7 @@ use mathlib.Core.Bool.{Bool, _&&_, cond}
 use lib.Dec.{leb, ltb, eqb}
 use Rattle.element_sibson.specs.Cubic.{Cell, Point, pixel}
 use Rattle.element_sibson.specs.Piece.{Piece, triangle, pieceAt}
-use Rattle.element_corners.specs.Held.{cell}
+use Rattle.element_cell.specs.Cell.{cell}
 use Rattle.sheet_layout.specs.Format.{columns, rows, lineX, lineY}
 
 -- ---- cells

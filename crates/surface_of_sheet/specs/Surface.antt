@@ -6,7 +6,7 @@ use Rattle.element_sibson.specs.Fraction.{ℚ}
 use Rattle.element_sibson.specs.Cubic.{Cubic, Jet, jet}
 use Rattle.element_sibson.specs.Piece.{FourCubics, leftTop, rightTop, leftBottom, rightBottom}
 use Rattle.element_sibson.specs.Element.{Nodes, element}
-use Rattle.element_readings.specs.Reading as reading
+use Rattle.element_readings.specs.Reading.{levelOf, tiltXOf, tiltYOf, bendXXOf, bendXYOf, bendYYOf}
 use Rattle.sheet_layout.specs.Format.{heightAt, slopeXAt, slopeYAt}
 use Rattle.surface_of_sheet.specs.Place.{cellOf, Place, cellAt, pointAt, place}
 
@@ -38,22 +38,22 @@ jetAt s p = jet (cellAt s p) (cubicAt s p) (pointAt s p)
 -- ---- readings at a place: the exact values rounded
 
 unfoldable pub levelAt : List ℕ → Place → ℤ
-levelAt s p = reading.level (cellAt s p) (cubicAt s p) (pointAt s p)
+levelAt s p = levelOf (cellAt s p) (cubicAt s p) (pointAt s p)
 
 unfoldable pub tiltXAt : List ℕ → Place → ℤ
-tiltXAt s p = reading.tiltX (cellAt s p) (cubicAt s p) (pointAt s p)
+tiltXAt s p = tiltXOf (cellAt s p) (cubicAt s p) (pointAt s p)
 
 unfoldable pub tiltYAt : List ℕ → Place → ℤ
-tiltYAt s p = reading.tiltY (cellAt s p) (cubicAt s p) (pointAt s p)
+tiltYAt s p = tiltYOf (cellAt s p) (cubicAt s p) (pointAt s p)
 
 unfoldable pub bendXXAt : List ℕ → Place → ℤ
-bendXXAt s p = reading.bendXX (cellAt s p) (cubicAt s p) (pointAt s p)
+bendXXAt s p = bendXXOf (cellAt s p) (cubicAt s p) (pointAt s p)
 
 unfoldable pub bendXYAt : List ℕ → Place → ℤ
-bendXYAt s p = reading.bendXY (cellAt s p) (cubicAt s p) (pointAt s p)
+bendXYAt s p = bendXYOf (cellAt s p) (cubicAt s p) (pointAt s p)
 
 unfoldable pub bendYYAt : List ℕ → Place → ℤ
-bendYYAt s p = reading.bendYY (cellAt s p) (cubicAt s p) (pointAt s p)
+bendYYAt s p = bendYYOf (cellAt s p) (cubicAt s p) (pointAt s p)
 
 -- ---- at a pixel: those at its place
 

@@ -1,7 +1,7 @@
 -- How the code holds the cubic that a pixel is read from. Assumes nothing.
 use Prim.Native.Nat.{ℕ}
 use mathlib.Core.List.{List}
-use Rattle.element_readings.specs.Bounds.{listed}
+use Rattle.element_cell.specs.Coefficients.{listed}
 use Rattle.surface_of_sheet.specs.Place.{Place}
 use Rattle.surface_of_sheet.specs.Surface.{cubicAt}
 use Rattle.surface_places.specs.Found.{holding}

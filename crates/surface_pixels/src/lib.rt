@@ -1,17 +1,17 @@
 // Reading at a pixel: the level, the tilt or the bend, or the number of a refusal.
 ghost use mathlib.Core.Path.{_≡_};
 ghost use mathlib.Core.List.{[], _∷_};
-ghost use Rattle.element_readings.specs.Reading.{level, tiltX, tiltY, bendXX, bendXY, bendYY};
-ghost use Rattle.element_turnings.specs.Doubled.{halves, Sized};
-ghost use Rattle.element_evaluation.specs.Pixels.{cellOf, pointOf, Inside};
+ghost use Rattle.element_cell.specs.Cell.{pixelCell, pixelPoint, PixelInCell};
+ghost use Rattle.element_cell.specs.Coefficients.{halves, Sized};
+ghost use Rattle.element_readings.specs.Reading.{levelOf, tiltXOf, tiltYOf, bendXXOf, bendXYOf, bendYYOf};
 ghost use Rattle.sheet_calls.specs.Refusals.{readingRefusal, Accepted};
-ghost use Rattle.sheet_calls.specs.WellFormed as mesh;
-ghost use Rattle.surface_answers.specs.Answers.{outcome, answered, Small};
+ghost use Rattle.sheet_calls.specs.WellFormed.{Inside};
+ghost use Rattle.surface_answers.specs.Answers.{outcome, answered, FitsFloat};
 ghost use Rattle.surface_of_sheet.specs.Place.{place};
-ghost use Rattle.surface_of_sheet.specs.Surface as surface;
+ghost use Rattle.surface_of_sheet.specs.Surface.{level, tiltX, tiltY};
 ghost use Rattle.surface_of_sheet.specs.Read.{numbers, read};
 ghost use Rattle.surface_pixels.specs.Located.{located};
-use element_evaluation::Pixel;
+use element_cell::Pixel;
 use sheet_checking::sheet_refusal;
 use surface_answers::Answer;
 use surface_answers::BendReading;
@@ -39,16 +39,16 @@ pub fn read(sheet: &[u8], x: u32, y: u32, kind: u32) -> Answer
 
 // The level and the tilt along x and y at a pixel of the mesh, as whole numbers.
 pub fn level_and_tilt(sheet: &[u8], x: u32, y: u32) -> [i64; 3]
-    requires { ⌜ Accepted (now sheet) × mesh.Inside (now sheet) x y ⌝ }
-    ensures { λ r. ⌜ r ≡ surface.level (now (sheet .entry)) x y ∷ surface.tiltX (now (sheet .entry)) x y ∷ surface.tiltY (now (sheet .entry)) x y ∷ [] ⌝ }
+    requires { ⌜ Accepted (now sheet) × Inside (now sheet) x y ⌝ }
+    ensures { λ r. ⌜ r ≡ level (now (sheet .entry)) x y ∷ tiltX (now (sheet .entry)) x y ∷ tiltY (now (sheet .entry)) x y ∷ [] ⌝ }
 {
     let cubic = locate(sheet, x, y);
     let k = cubic.coefficients;
     let p = cubic.pixel;
     [
-        element_evaluation::level(k, p),
-        element_evaluation::tilt_x(k, p),
-        element_evaluation::tilt_y(k, p),
+        element_evaluation::level_of(k, p),
+        element_evaluation::tilt_x_of(k, p),
+        element_evaluation::tilt_y_of(k, p),
     ]
 }
 
@@ -78,17 +78,17 @@ fn reading(sheet: &[u8], x: u32, y: u32, kind: u32) -> Answer
     let k = cubic.coefficients;
     let p = cubic.pixel;
     if kind == 0 {
-        return level(k, p);
+        return level_answer(k, p);
     }
     if kind == 1 {
-        return tilt(k, p);
+        return tilt_answer(k, p);
     }
-    bend(k, p)
+    bend_answer(k, p)
 }
 
 // The cubic on the pixel's cell and piece.
 fn locate(sheet: &[u8], x: u32, y: u32) -> LocatedCubic
-    requires { ⌜ Accepted (now sheet) × mesh.Inside (now sheet) x y ⌝ }
+    requires { ⌜ Accepted (now sheet) × Inside (now sheet) x y ⌝ }
     ensures { λ r. ⌜ r ≡ located (now (sheet .entry)) (place (now (sheet .entry)) x y) ⌝ }
 {
     let place = find(sheet, x, y);
@@ -102,33 +102,33 @@ fn locate(sheet: &[u8], x: u32, y: u32) -> LocatedCubic
 }
 
 // Of the cubic with these doubled coefficients: the level, the tilt along x and y, the bend along x, mixed and along y.
-fn level(k: [i64; 10], p: Pixel) -> Answer
-    requires { ⌜ Sized k × Inside p × Small (level (cellOf p) (halves k) (pointOf p)) ⌝ }
-    ensures { λ r. ⌜ outcome r ≡ answered 0 (level (cellOf p) (halves k) (pointOf p) ∷ []) ⌝ }
+fn level_answer(k: [i64; 10], p: Pixel) -> Answer
+    requires { ⌜ Sized k × PixelInCell p × FitsFloat (levelOf (pixelCell p) (halves k) (pixelPoint p)) ⌝ }
+    ensures { λ r. ⌜ outcome r ≡ answered 0 (levelOf (pixelCell p) (halves k) (pixelPoint p) ∷ []) ⌝ }
 {
-    let reading = LevelReading::new(element_evaluation::level(k, p));
+    let reading = LevelReading::new(element_evaluation::level_of(k, p));
     reading.answer()
 }
 
-fn tilt(k: [i64; 10], p: Pixel) -> Answer
-    requires { ⌜ Sized k × Inside p × Small (tiltX (cellOf p) (halves k) (pointOf p)) × Small (tiltY (cellOf p) (halves k) (pointOf p)) ⌝ }
-    ensures { λ r. ⌜ outcome r ≡ answered 1 (tiltX (cellOf p) (halves k) (pointOf p) ∷ tiltY (cellOf p) (halves k) (pointOf p) ∷ []) ⌝ }
+fn tilt_answer(k: [i64; 10], p: Pixel) -> Answer
+    requires { ⌜ Sized k × PixelInCell p × FitsFloat (tiltXOf (pixelCell p) (halves k) (pixelPoint p)) × FitsFloat (tiltYOf (pixelCell p) (halves k) (pixelPoint p)) ⌝ }
+    ensures { λ r. ⌜ outcome r ≡ answered 1 (tiltXOf (pixelCell p) (halves k) (pixelPoint p) ∷ tiltYOf (pixelCell p) (halves k) (pixelPoint p) ∷ []) ⌝ }
 {
     let reading = TiltReading::new(
-        element_evaluation::tilt_x(k, p),
-        element_evaluation::tilt_y(k, p),
+        element_evaluation::tilt_x_of(k, p),
+        element_evaluation::tilt_y_of(k, p),
     );
     reading.answer()
 }
 
-fn bend(k: [i64; 10], p: Pixel) -> Answer
-    requires { ⌜ Sized k × Inside p × Small (bendXX (cellOf p) (halves k) (pointOf p)) × Small (bendXY (cellOf p) (halves k) (pointOf p)) × Small (bendYY (cellOf p) (halves k) (pointOf p)) ⌝ }
-    ensures { λ r. ⌜ outcome r ≡ answered 2 (bendXX (cellOf p) (halves k) (pointOf p) ∷ bendXY (cellOf p) (halves k) (pointOf p) ∷ bendYY (cellOf p) (halves k) (pointOf p) ∷ []) ⌝ }
+fn bend_answer(k: [i64; 10], p: Pixel) -> Answer
+    requires { ⌜ Sized k × PixelInCell p × FitsFloat (bendXXOf (pixelCell p) (halves k) (pixelPoint p)) × FitsFloat (bendXYOf (pixelCell p) (halves k) (pixelPoint p)) × FitsFloat (bendYYOf (pixelCell p) (halves k) (pixelPoint p)) ⌝ }
+    ensures { λ r. ⌜ outcome r ≡ answered 2 (bendXXOf (pixelCell p) (halves k) (pixelPoint p) ∷ bendXYOf (pixelCell p) (halves k) (pixelPoint p) ∷ bendYYOf (pixelCell p) (halves k) (pixelPoint p) ∷ []) ⌝ }
 {
     let reading = BendReading::new(
-        element_evaluation::bend_xx(k, p),
-        element_evaluation::bend_xy(k, p),
-        element_evaluation::bend_yy(k, p),
+        element_evaluation::bend_xx_of(k, p),
+        element_evaluation::bend_xy_of(k, p),
+        element_evaluation::bend_yy_of(k, p),
     );
     reading.answer()
 }

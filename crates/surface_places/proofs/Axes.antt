@@ -9,14 +9,13 @@ use Rattle.sheet_layout.specs.Format.{columns, rows, lineFrom, xLinesOffset, yL
 use Rattle.sheet_calls.specs.Refusals.{outside, Accepted}
 use Rattle.sheet_calls.specs.WellFormed.{Inside}
 use Rattle.element_sibson.specs.Piece.{pieceAt}
-use Rattle.element_evaluation.specs.Pixels as pixels
-use Rattle.element_evaluation.specs.Pixels.{pointOf}
-use Rattle.element_evaluation.specs.declared.Pixel.{Pixel}
+use Rattle.element_cell.specs.Cell.{pixelPoint, PixelInCell}
+use Rattle.element_cell.specs.Pieces.{named}
+use Rattle.element_cell.specs.declared.Pixel.{Pixel}
 use Rattle.surface_of_sheet.specs.Place.{cellOf, columnAt, rowAt, place}
 use Rattle.surface_of_sheet.proofs.Cells.{sound}
 use Rattle.surface_places.specs.declared.OnAxis.{OnAxis}
 use Rattle.surface_places.specs.Found.{Axis, Between, offAxis, onAxis, holding}
-use Rattle.element_pieces.specs.Parts.{named}
 use Rattle.surface_places.proofs.Search.{size-side, offset-below}
 
 -- a pixel lies outside the mesh where it is off one of the axes
@@ -35,7 +34,7 @@ abbrev pixelAt : List ℕ → ℕ → ℕ → Pixel
 pixelAt s x y = record { a = alongX s x .offset; b = alongY s y .offset; width = alongX s x .size; height = alongY s y .size }
 
 -- the place of a pixel, by these
-pub place-is : (s : List ℕ) (x y : ℕ) → record { column = alongX s x .cell; row = alongY s y .cell; pixel = pixelAt s x y; piece = named (pieceAt (pointOf (pixelAt s x y))) } ≡ holding s (place s x y)
+pub place-is : (s : List ℕ) (x y : ℕ) → record { column = alongX s x .cell; row = alongY s y .cell; pixel = pixelAt s x y; piece = named (pieceAt (pixelPoint (pixelAt s x y))) } ≡ holding s (place s x y)
 unfolding onAxis columnAt rowAt cellOf place holding
 place-is s x y = refl
 
@@ -53,7 +52,7 @@ module _ (s : List ℕ) (accepted : Accepted s) where
     pub y-between : Between (lineFrom s (yLinesOffset s)) (rows s) y
     y-between = record { first = inside .top; last = inside .bottom }
 
-    pub pixel-inside : pixels.Inside (pixelAt s x y)
+    pub pixel-inside : PixelInCell (pixelAt s x y)
     pixel-inside = record {
       width = size-side _ _ _ _ x-axis x-between;
       height = size-side _ _ _ _ y-axis y-between;

@@ -5,11 +5,11 @@ use mathlib.Core.Path.{_≡_}
 use mathlib.Core.List.{List}
 use native.Mathlib.Omega.{arith}
 use native.Mathlib.Decide.{decLt}
+use Rattle.element_cell.specs.Cell.{Side}
 use Rattle.sheet_layout.specs.Format.{lineFrom}
 use Rattle.surface_of_sheet.specs.Place.{cellAlong}
 use Rattle.surface_of_sheet.proofs.Along.{along-starts, along-last, rise, axis-cell, axis-ends}
 use Rattle.surface_of_sheet.proofs.Cells.{gap-side}
-use Rattle.element_corners.specs.Held.{Side}
 use Rattle.surface_places.specs.Found.{Axis, Between, onAxis}
 
 -- the line in the middle, where one is left between low and high

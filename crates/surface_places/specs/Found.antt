@@ -4,9 +4,9 @@ use mathlib.Core.List.{List}
 use mathlib.Core.Bool.{Bool, _||_}
 use lib.Dec.{ltb}
 use lib.ListN.{length}
+use Rattle.element_cell.specs.Pieces.{named}
 use Rattle.sheet_layout.specs.Format.{lineFrom, lineX, lineY}
 use Rattle.sheet_calls.specs.WellFormed.{Rising}
-use Rattle.element_pieces.specs.Parts.{named}
 use Rattle.surface_of_sheet.specs.Place as surface
 use Rattle.surface_of_sheet.specs.Place.{cellAlong}
 use Rattle.surface_places.specs.declared.Place.{Place}

@@ -1,16 +1,14 @@
 // Where a pixel lies on an accepted sheet: outside the mesh, or in a cell, at offsets in it, in a piece of it.
 ghost use mathlib.Core.Path.{_≡_};
 ghost use Prim.Native.Nat.{_-_};
-ghost use Rattle.element_sibson.specs.Piece.{pieceAt};
 ghost use Rattle.sheet_layout.specs.Format.{lineFrom};
 ghost use Rattle.sheet_calls.specs.Refusals.{outside, Accepted};
 ghost use Rattle.sheet_calls.specs.WellFormed.{Inside};
-ghost use Rattle.element_pieces.specs.Parts.{named};
-ghost use Rattle.element_evaluation.specs.Pixels as pixels;
 ghost use Rattle.surface_of_sheet.specs.Place.{cellAlong, place};
 ghost use Rattle.surface_places.specs.Found.{Axis, Between, offAxis, onAxis, holding};
-use element_evaluation::Pixel;
-use element_pieces::Piece;
+use element_cell::Piece;
+use element_cell::Pixel;
+use element_cell::piece_at;
 use sheet_layout::HEADER_SIZE;
 use sheet_layout::columns;
 use sheet_layout::line;
@@ -59,29 +57,8 @@ pub fn find(sheet: &[u8], x: u32, y: u32) -> Place
         column: across.cell,
         row: down.cell,
         pixel: pixel,
-        piece: piece(pixel),
+        piece: piece_at(pixel),
     }
-}
-
-// The lowest piece that holds the pixel.
-fn piece(p: Pixel) -> Piece
-    requires { ⌜ pixels.Inside p ⌝ }
-    ensures { λ r. ⌜ r ≡ named (pieceAt (pixels.pointOf p)) ⌝ }
-{
-    // r, s and 1, times the cell's area
-    let x = p.a * p.height;
-    let y = p.b * p.width;
-    let q = p.width * p.height;
-    if y <= x {
-        if x + y <= q {
-            return Piece::Top;
-        }
-        return Piece::Right;
-    }
-    if q <= x + y {
-        return Piece::Bottom;
-    }
-    Piece::Left
 }
 
 // Whether a position lies before an axis's first line or beyond its last.

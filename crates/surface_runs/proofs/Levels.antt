@@ -9,11 +9,11 @@ use lib.ListN.{length, set}
 use Rattle.element_sibson.specs.Cubic.{pixel}
 use Rattle.element_sibson.specs.Piece.{pieceAt}
 use Rattle.element_sibson.specs.Element.{CornerNumbers, cornerNumbers, sibson, element}
-use Rattle.element_readings.specs.Reading as reading
-use Rattle.element_readings.specs.Bounds.{largest, AllWithin}
-use Rattle.element_corners.specs.Held.{corners, arrays, cell}
-use Rattle.element_corners.proofs.Arrays.{held}
-use Rattle.element_evaluation.specs.declared.Pixel.{Pixel}
+use Rattle.element_cell.specs.Cell.{cell}
+use Rattle.element_cell.specs.Corners.{corners, arrays, largest, AllWithin}
+use Rattle.element_cell.specs.declared.Pixel.{Pixel}
+use Rattle.element_cell.proofs.Arrays.{held}
+use Rattle.element_readings.specs.Reading.{levelOf}
 use Rattle.sheet_layout.specs.Format.{lineX}
 use Rattle.surface_of_sheet.specs.Place.{cellOf, place}
 use Rattle.surface_of_sheet.specs.Surface.{nodesOf, setOf, levelAt, level}
@@ -60,7 +60,7 @@ module _ {s : List ℕ} {t : Strip} {x count done i : ℕ} (at : AtColumn s t x 
 
   -- the level a pixels from the left edge of a cell in this column, h pixels high, with these corner numbers
   abbrev levelFrom : CornerNumbers → ℕ → ℕ → ℤ
-  levelFrom n h a = let P = pixel (cell width h) a (t .offset) in reading.level (cell width h) (sibson n (pieceAt P)) P
+  levelFrom n h a = let P = pixel (cell width h) a (t .offset) in levelOf (cell width h) (sibson n (pieceAt P)) P
 
   -- the level at a position in the strip, seen from a column
   abbrev seenFrom : ℕ → ℕ → ℤ

@@ -40,21 +40,21 @@ module _ (s : List ℕ) (x y count : ℕ) (mesh : OnMesh s x y count) where
   }
 
   -- the level of the pixel k to the right
-  abbrev levelOf : ℕ → ℤ
-  levelOf k = stripLevel s (stripAt s y) (x + k)
+  abbrev levelAlong : ℕ → ℤ
+  levelAlong k = stripLevel s (stripAt s y) (x + k)
 
   module _ (row₀ : List ℤ) where
     pub record Underway (row : List ℤ) (column done : ℕ) : Type 0 where
       pub most : done ≤ count
-      pub laid : row ≡ laid levelOf 0 done row₀
+      pub laid : row ≡ laid levelAlong 0 done row₀
       pub here : done < count → column ≡ columnAt s (x + done)
 
     pub begins : Underway row₀ (columnAt s x) 0
-    begins = record { most = omega arith; laid = laid-none levelOf 0 row₀; here = λ h. ap (columnAt s) (sym (add-zero x)) }
+    begins = record { most = omega arith; laid = laid-none levelAlong 0 row₀; here = λ h. ap (columnAt s) (sym (add-zero x)) }
 
     module _ {row : List ℤ} {column done : ℕ} (u : Underway row column done) where
       pub same-length : length row ≡ length row₀
-      same-length = ap length (u .laid) ∙ laid-length levelOf 0 done row₀
+      same-length = ap length (u .laid) ∙ laid-length levelAlong 0 done row₀
 
       -- through one column
       module _ (more : done < count) {e : ℕ} (end : e ≡ doneIn s x column count) where
@@ -68,15 +68,15 @@ module _ (s : List ℕ) (x y count : ℕ) (mesh : OnMesh s x y count) where
         pub further : done < e
         further = rw end (ended .further)
 
-        pub goes-on : {next : List ℤ} → next ≡ laid (λ k. levelOf (done + k)) done (e - done) row → Underway next (column + 1) e
+        pub goes-on : {next : List ℤ} → next ≡ laid (λ k. levelAlong (done + k)) done (e - done) row → Underway next (column + 1) e
         goes-on l = record {
           most = rw end (ended .most);
-          laid = l ∙ (λ j. laid (λ k. levelOf (done + k)) (sym (zero-add done) j) (e - done) (u .laid j))
-              ∙ sym (laid-join levelOf 0 done (e - done) row₀)
-              ∙ (let whole : done + (e - done) ≡ e = omega (arith, further) in ap (λ (n : ℕ). laid levelOf 0 n row₀) whole);
+          laid = l ∙ (λ j. laid (λ k. levelAlong (done + k)) (sym (zero-add done) j) (e - done) (u .laid j))
+              ∙ sym (laid-join levelAlong 0 done (e - done) row₀)
+              ∙ (let whole : done + (e - done) ≡ e = omega (arith, further) in ap (λ (n : ℕ). laid levelAlong 0 n row₀) whole);
           here = λ h. add-one column ∙ sym (ended .next (rw (← end) h)) ∙ ap (λ (n : ℕ). columnAt s (x + n)) (sym end);
         }
 
       -- to its end
       pub finishes : count ≤ done → count ≤ length row₀ → row ≡ begun s x y count row₀
-      finishes l fits = laid-all levelOf 0 row₀ (u .most) l (u .laid) ∙ laid-begun s x y row₀ count fits
+      finishes l fits = laid-all levelAlong 0 row₀ (u .most) l (u .laid) ∙ laid-begun s x y row₀ count fits

@@ -8,7 +8,7 @@ ghost use Rattle.sheet_calls.specs.WellFormed.{OnMesh};
 ghost use Rattle.surface_of_sheet.specs.Run.{begun};
 ghost use Rattle.element_spans.specs.Span.{laid};
 ghost use Rattle.surface_runs.specs.Strips.{stripLevel, doneIn, AtColumn};
-use element_evaluation::Pixel;
+use element_cell::Pixel;
 use element_spans::fill_cell;
 use integers::least;
 use sheet_layout::columns;

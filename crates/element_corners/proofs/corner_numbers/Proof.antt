@@ -4,7 +4,8 @@ use lib.Dec.{lit<}
 use Rattle.integers.specs.Within.{_within_}
 use Rattle.element_sibson.specs.Piece.{Corner, leftTop, rightTop, leftBottom, rightBottom}
 use Rattle.element_sibson.specs.Element.{cornerNumbers}
-use Rattle.element_corners.specs.Held.{corners, three, arrays, numbersOf, Side}
+use Rattle.element_cell.specs.Cell.{Side}
+use Rattle.element_cell.specs.Corners.{corners, three, arrays, numbersOf}
 use Rattle.element_corners.proofs.corner_numbers.Statement.{statement}
 use Rattle.element_corners.proofs.corner_numbers.Tie as tie
 

@@ -3,7 +3,7 @@ use mathlib.Core.List.{[], _∷_}
 use borrow.Author.Needs.{needs}
 use lib.Dec.{lit<}
 use Rattle.element_sibson.specs.Element.{exchanged}
-use Rattle.element_corners.specs.Held.{corners, arrays}
+use Rattle.element_cell.specs.Corners.{corners, arrays}
 use Rattle.element_corners.proofs.exchanged.Statement.{statement}
 use Rattle.element_corners.proofs.exchanged.Tie as tie
 

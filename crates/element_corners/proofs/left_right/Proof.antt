@@ -3,7 +3,7 @@ use mathlib.Core.List.{[], _∷_}
 use lib.Dec.{lit<}
 use Rattle.element_sibson.specs.Piece.{leftTop, rightTop, leftBottom, rightBottom}
 use Rattle.element_sibson.specs.Element.{leftRight}
-use Rattle.element_corners.specs.Held.{corners, arrays}
+use Rattle.element_cell.specs.Corners.{corners, arrays}
 use Rattle.element_corners.proofs.left_right.Statement.{statement}
 use Rattle.element_corners.proofs.left_right.Tie as tie
 

@@ -4,8 +4,8 @@ use lib.Dec.{lit<}
 use mir.Syntax.{w64}
 use Rattle.integers.proofs.Operand.{Operand, known, opposite, asks, gives}
 use Rattle.element_sibson.specs.Element.{negateX}
-use Rattle.element_corners.specs.Held.{jetOf, three}
 use Rattle.integers.proofs.Parameters.{kept}
+use Rattle.element_cell.specs.Corners.{jetOf, three}
 use Rattle.element_corners.proofs.negate_x.Statement.{statement}
 use Rattle.element_corners.proofs.negate_x.Tie as tie
 

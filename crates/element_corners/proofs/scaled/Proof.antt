@@ -6,9 +6,10 @@ use lib.IntN.{pos, _*ℤ_}
 use mir.Syntax.{w64}
 use Rattle.integers.proofs.Operand.{Operand, known, returned, _⊠_, asks, gives}
 use Rattle.element_sibson.specs.Element.{cornerNumbers}
-use Rattle.element_corners.specs.Held.{jetOf, three, numbersOf, cell}
-use Rattle.element_corners.proofs.Sides.{length-within, side-is}
 use Rattle.integers.proofs.Parameters.{kept}
+use Rattle.element_cell.specs.Cell.{cell}
+use Rattle.element_cell.specs.Corners.{jetOf, three, numbersOf}
+use Rattle.element_cell.proofs.Sides.{length-within, side-is}
 use Rattle.element_corners.proofs.scaled.Statement.{statement}
 use Rattle.element_corners.proofs.scaled.Tie as tie
 

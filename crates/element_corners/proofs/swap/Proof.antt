@@ -2,8 +2,8 @@
 use mathlib.Core.List.{[], _∷_}
 use lib.Dec.{lit<}
 use Rattle.element_sibson.specs.Element.{swap}
-use Rattle.element_corners.specs.Held.{jetOf, three}
 use Rattle.integers.proofs.Parameters.{kept}
+use Rattle.element_cell.specs.Corners.{jetOf, three}
 use Rattle.element_corners.proofs.swap.Statement.{statement}
 use Rattle.element_corners.proofs.swap.Tie as tie
 

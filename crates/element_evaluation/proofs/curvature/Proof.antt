@@ -6,7 +6,7 @@ use lib.IntN.{pos}
 use mir.Syntax.{w64}
 use Rattle.integers.proofs.Bounds.{within-mono}
 use Rattle.integers.proofs.Operand.{Operand, literal, returned, stored, _⊠_, asks, read-within, unchanged}
-use Rattle.element_evaluation.specs.Pixels.{EachWithin}
+use Rattle.element_evaluation.specs.Needs.{EachWithin}
 use Rattle.element_evaluation.specs.LowDegree.{linearAt}
 use Rattle.element_evaluation.proofs.Derived.{scaled-each, linear-within}
 use Rattle.element_evaluation.proofs.Factors.{read-factor, over-gives}

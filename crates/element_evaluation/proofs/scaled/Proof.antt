@@ -6,10 +6,9 @@ use native.Mathlib.Nat.{le-trans}
 use lib.IntN.{pos}
 use mir.Syntax.{w64}
 use Rattle.integers.proofs.Operand.{Operand, returned, _⊠_, asks, gives}
-use Rattle.element_corners.specs.Held.{cell}
-use Rattle.element_evaluation.specs.Pixels.{cellOf}
+use Rattle.element_cell.specs.Cell.{cell, pixelCell}
+use Rattle.element_cell.proofs.Sides.{length-within, side-is}
 use Rattle.element_evaluation.specs.LowDegree.{scaledOf}
-use Rattle.element_corners.proofs.Sides.{length-within, side-is}
 use Rattle.element_evaluation.proofs.scaled.Statement.{statement}
 use Rattle.element_evaluation.proofs.scaled.Tie as tie
 
@@ -26,7 +25,7 @@ abbrev y : tie.After-length4 → Operand
 y c = let i = c .before .before .before .before .pre in returned w64 (c .length4 .ensures) (length-within (le-trans (i .down) (i .height .most))) tt ⊠ w (c .before .before)
 
 -- over the sides as they are
-sides : (s : tie.Start) → let p = s .args .p in pos (p .width * p .height) ∷ pos (p .a * p .height) ∷ pos (p .b * p .width) ∷ [] ≡ scaledOf (cellOf p) (p .a) (p .b)
+sides : (s : tie.Start) → let p = s .args .p in pos (p .width * p .height) ∷ pos (p .a * p .height) ∷ pos (p .b * p .width) ∷ [] ≡ scaledOf (pixelCell p) (p .a) (p .b)
 unfolding cell scaledOf
 sides s = let p = s .args .p in sym (λ i. let w = side-is (s .pre .width) i in let h = side-is (s .pre .height) i in pos (w * h) ∷ pos (p .a * h) ∷ pos (p .b * w) ∷ [])
 

@@ -3,7 +3,7 @@ use mathlib.Core.Path.{_∙_, ap, subst⁻¹}
 use borrow.Author.Needs.{needs}
 use mir.Syntax.{w64}
 use Rattle.integers.proofs.Operand.{Operand, returned, read-within, unchanged}
-use Rattle.element_evaluation.specs.Pixels.{EachWithin}
+use Rattle.element_evaluation.specs.Needs.{EachWithin}
 use Rattle.element_evaluation.specs.LowDegree.{quadraticAt}
 use Rattle.element_evaluation.proofs.Derived.{scaled-each, quadratic-within}
 use Rattle.element_evaluation.proofs.Factors.{read-factor, over-gives}

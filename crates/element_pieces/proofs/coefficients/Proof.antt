@@ -3,11 +3,11 @@ use mathlib.Core.Path.{_≡_, _∙_}
 use borrow.Author.Needs.{needs}
 use Rattle.element_sibson.specs.Piece.{top, left}
 use Rattle.element_sibson.specs.Element.{transposed, flipped, mirrored, topDown, leftRight, onTop, onLeft, sibson}
-use Rattle.element_readings.specs.Bounds.{listed}
-use Rattle.element_corners.specs.Held.{corners}
-use Rattle.element_turnings.specs.Doubled.{halves}
-use Rattle.element_pieces.specs.Parts.{pieceOf}
-use Rattle.element_corners.proofs.Arrays.{held, topDown-within, leftRight-within}
+use Rattle.element_cell.specs.Corners.{corners}
+use Rattle.element_cell.specs.Coefficients.{listed, halves}
+use Rattle.element_cell.specs.Pieces.{pieceOf}
+use Rattle.element_cell.proofs.Arrays.{held}
+use Rattle.element_corners.proofs.Turned.{topDown-within, leftRight-within}
 use Rattle.element_turnings.proofs.Sizes.{piece-sized}
 use Rattle.element_pieces.proofs.coefficients.Statement.{statement}
 use Rattle.element_pieces.proofs.coefficients.Tie as tie

@@ -2,9 +2,9 @@
 use mathlib.Core.Path.{_∙_}
 use borrow.Author.Needs.{needs}
 use Rattle.element_sibson.specs.Element.{transposed, exchanged, onTop, onLeft}
-use Rattle.element_readings.specs.Bounds.{listed}
-use Rattle.element_turnings.specs.Doubled.{halves}
-use Rattle.element_corners.proofs.Arrays.{held, exchanged-within}
+use Rattle.element_cell.specs.Coefficients.{listed, halves}
+use Rattle.element_cell.proofs.Arrays.{held}
+use Rattle.element_corners.proofs.Turned.{exchanged-within}
 use Rattle.element_pieces.proofs.on_left.Statement.{statement}
 use Rattle.element_pieces.proofs.on_left.Tie as tie
 

@@ -8,15 +8,15 @@ use lib.IntN.{ℤ, pos}
 use Rattle.element_sibson.specs.Cubic.{Jet}
 use Rattle.element_sibson.specs.Piece.{Corner, leftTop, rightTop, leftBottom, rightBottom}
 use Rattle.element_sibson.specs.Element.{inOrder, weights, weighed, halved, onTop}
-use Rattle.element_readings.specs.Bounds.{largest, place, listed}
-use Rattle.element_corners.specs.Held.{jetOf, corners}
+use Rattle.element_cell.specs.Corners.{cornerIndex, jetOf, corners, largest}
+use Rattle.element_cell.specs.Coefficients.{listed}
 use Rattle.element_pieces.specs.Parts.{TenWithin, JetWithin, added, withCorner}
 use Rattle.element_pieces.proofs.Entries.{ten-within, more, corner-within}
 use Rattle.element_pieces.proofs.on_top.Statement.{statement}
 use Rattle.element_pieces.proofs.on_top.Tie as tie
 
 abbrev jet : tie.Start → Corner → Jet ℤ
-jet s c = jetOf (getD (s .args .t1) (place c) [])
+jet s c = jetOf (getD (s .args .t1) (cornerIndex c) [])
 
 required : (s : tie.Start) (c : Corner) → JetWithin largest (jet s c)
 unfolding corners

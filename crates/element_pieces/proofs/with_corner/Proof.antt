@@ -4,8 +4,7 @@ use Prim.Native.Nat.{_*_}
 use lib.Dec.{lit<, lit≤}
 use mir.Syntax.{w64}
 use Rattle.integers.proofs.Operand.{Operand, known, read-within}
-use Rattle.element_readings.specs.Bounds.{largest}
-use Rattle.element_corners.specs.Held.{jetOf}
+use Rattle.element_cell.specs.Corners.{jetOf, largest}
 use Rattle.element_pieces.specs.Parts.{TenWithin, added, withCorner}
 use Rattle.element_pieces.proofs.Entries.{more, added-within}
 use Rattle.element_pieces.proofs.with_corner.Statement.{statement}

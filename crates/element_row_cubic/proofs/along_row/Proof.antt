@@ -8,14 +8,14 @@ use native.Mathlib.Omega.{arith}
 use lib.IntN.{ℤ, pos, _*ℤ_}
 use mir.Syntax.{w64}
 use Rattle.element_sibson.specs.Cubic.{Power, one, r¹, s¹, r², rs, s², r³, r²s, rs², s³}
-use Rattle.element_readings.specs.Bounds.{largest, listed, size}
 use Rattle.integers.proofs.Bounds.{within-mono}
 use Rattle.integers.proofs.Operand.{Operand, known, returned, _⊠_, asks, gives}
-use Rattle.element_corners.specs.Held.{Side, cell}
-use Rattle.element_turnings.specs.Doubled.{halves}
+use Rattle.element_cell.specs.Cell.{Side, cell}
+use Rattle.element_cell.specs.Corners.{largest}
+use Rattle.element_cell.specs.Coefficients.{listed, size, halves}
+use Rattle.element_cell.proofs.Coefficients.{sized-within}
+use Rattle.element_cell.proofs.Sides.{length-within, square-within, cube-within, side-is}
 use Rattle.element_row_cubic.specs.Row.{down, alongRow}
-use Rattle.element_corners.proofs.Sides.{length-within, square-within, cube-within, side-is}
-use Rattle.element_turnings.proofs.Sizes.{sized-within}
 use Rattle.element_row_cubic.proofs.RowBounds.{down-within}
 use Rattle.element_row_cubic.proofs.along_row.Statement.{statement}
 use Rattle.element_row_cubic.proofs.along_row.Tie as tie

@@ -3,7 +3,7 @@ use mathlib.Core.Path.{_∙_}
 use borrow.Author.Needs.{needs}
 use mir.Syntax.{w64}
 use Rattle.integers.proofs.Operand.{Operand, known, returned, stored, rebound, _⊞_, _⊠_, asks, gives}
-use Rattle.element_corners.proofs.Sides.{length-within}
+use Rattle.element_cell.proofs.Sides.{length-within}
 use Rattle.element_row_cubic.proofs.Horner.{c₀, c₁, c₂, c₃, m₂, s₂, m₁, s₁, m₀, s₀, expanded}
 use Rattle.element_row_cubic.proofs.at_offset.Statement.{statement}
 use Rattle.element_row_cubic.proofs.at_offset.Tie as tie

@@ -5,7 +5,7 @@ use Prim.Native.Nat.{_*_}
 use lib.IntN.{pos}
 use mir.Syntax.{w64}
 use Rattle.integers.proofs.Operand.{Operand, literal, returned, stored, _⊠_, asks, gives}
-use Rattle.element_corners.proofs.Sides.{cube-within}
+use Rattle.element_cell.proofs.Sides.{cube-within}
 use Rattle.element_row_cubic.proofs.Denominators.{cubes-are}
 use Rattle.element_row_cubic.proofs.denominator.Statement.{statement}
 use Rattle.element_row_cubic.proofs.denominator.Tie as tie

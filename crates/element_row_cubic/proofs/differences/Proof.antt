@@ -5,7 +5,7 @@ use borrow.Author.Needs.{needs}
 use lib.IntN.{pos}
 use mir.Syntax.{w64}
 use Rattle.integers.proofs.Operand.{Operand, literal, known, returned, stored, _⊞_, _⊠_, asks, gives}
-use Rattle.element_corners.proofs.Sides.{length-within}
+use Rattle.element_cell.proofs.Sides.{length-within}
 use Rattle.element_row_cubic.specs.Steps.{differences}
 use Rattle.element_row_cubic.proofs.Horner.{at-offset-within}
 use Rattle.element_row_cubic.proofs.Rises.{linear, quadratic, leading, first-is, second-is, third-is}

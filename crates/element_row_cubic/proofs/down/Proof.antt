@@ -7,9 +7,9 @@ use lib.IntN.{pos}
 use mir.Syntax.{w64}
 use Rattle.integers.proofs.Bounds.{is-within}
 use Rattle.integers.proofs.Operand.{Operand, known, returned, stored, _⊞_, _⊠_, asks, gives}
+use Rattle.element_cell.proofs.Coefficients.{in-size}
+use Rattle.element_cell.proofs.Sides.{length-within}
 use Rattle.element_row_cubic.specs.Row.{down}
-use Rattle.element_corners.proofs.Sides.{length-within}
-use Rattle.element_turnings.proofs.Sizes.{in-size}
 use Rattle.element_row_cubic.proofs.down.Statement.{statement}
 use Rattle.element_row_cubic.proofs.down.Tie as tie
 

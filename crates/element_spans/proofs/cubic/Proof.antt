@@ -1,13 +1,13 @@
 -- `element_spans::cubic` meets its contract. Assumes nothing.
 use mathlib.Core.Path.{_∙_, ap}
+use Rattle.element_cell.specs.Cell.{pixelCell}
+use Rattle.element_cell.specs.Corners.{corners}
+use Rattle.element_cell.specs.Coefficients.{halves}
+use Rattle.element_cell.specs.Pieces.{pieceOf}
 use borrow.Author.Needs.{needs}
-use Rattle.element_corners.specs.Held.{corners}
-use Rattle.element_turnings.specs.Doubled.{halves}
 use Rattle.element_turnings.proofs.Joined.{joined}
 use Rattle.element_turnings.proofs.Sizes.{piece-sized}
-use Rattle.element_pieces.specs.Parts.{pieceOf}
 use Rattle.element_row_cubic.specs.Row.{alongRow}
-use Rattle.element_evaluation.specs.Pixels.{cellOf}
 use Rattle.element_spans.proofs.cubic.Statement.{statement}
 use Rattle.element_spans.proofs.cubic.Tie as tie
 
@@ -17,7 +17,7 @@ along-row-requires c κs = let s = c .before in let i = s .pre .1 in
 
 returns : tie.Need-returns
 returns c = let s = c .before .before in let p = s .args .p in
-    c .along-row .ensures ∙ ap (λ f. alongRow (cellOf p) f (p .b)) (ap halves (c .before .coefficients .ensures) ∙ joined .back (corners (s .args .n)) (pieceOf (s .args .piece)))
+    c .along-row .ensures ∙ ap (λ f. alongRow (pixelCell p) f (p .b)) (ap halves (c .before .coefficients .ensures) ∙ joined .back (corners (s .args .n)) (pieceOf (s .args .piece)))
 
 pub cubic-spec : {M : Type 1} → statement M
 cubic-spec = tie.close (tie.spec (λ c κs. search needs) along-row-requires returns)

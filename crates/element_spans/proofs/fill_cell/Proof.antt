@@ -12,14 +12,14 @@ use Rattle.integers.specs.Round.{round}
 use Rattle.integers.specs.Constants.{constants}
 use Rattle.integers.proofs.Operand.{Operand, returned}
 use Rattle.element_sibson.specs.Piece.{left, right}
-use Rattle.element_corners.specs.Held.{corners}
-use Rattle.element_pieces.specs.Parts.{pieceOf}
+use Rattle.element_cell.specs.Corners.{corners}
+use Rattle.element_cell.specs.Pieces.{pieceOf}
+use Rattle.element_cell.specs.declared.Pixel.{Pixel}
 use Rattle.element_row_cubic.specs.Row.{atOffset}
 use Rattle.element_row_cubic.proofs.Denominators.{denominates}
-use Rattle.element_evaluation.specs.declared.Pixel.{Pixel}
 use Rattle.element_spans.specs.Span.{toRight, cellLevel, laid}
 use Rattle.element_spans.specs.Ends.{middleOf, endsOf}
-use Rattle.element_spans.specs.Needs.{Levels}
+use Rattle.element_spans.specs.Needs.{FitsAlong}
 use Rattle.element_spans.proofs.Cubics.{Span, denominatorOf, levels-are, levels-fit}
 use Rattle.element_spans.proofs.Laid.{laid-length, laid-same, laid-more}
 use Rattle.element_spans.proofs.Parted.{Parted, ordered, left-piece, middle-piece, right-piece}
@@ -117,7 +117,7 @@ module _ (c : tie.After-fill-levels2) where
 
 fill-levels-requires : tie.Need-fill-levels-requires
 fill-levels-requires c κs = let s = start (first c) in (
-  subst (λ o. Levels (c .cubic .result) o (lefts (first c)) (first c .before .before .before .new .result)) (add-zero (s .args .first .a))
+  subst (λ o. FitsAlong (c .cubic .result) o (lefts (first c)) (first c .before .before .before .new .result)) (add-zero (s .args .first .a))
       (levels-fit (s .pre .0) (s .pre .1) (divisor (first c)) (span₁ c)),
   omega (arith, s .pre .2, in-order (first c)),
 )

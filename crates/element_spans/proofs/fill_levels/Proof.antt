@@ -15,7 +15,7 @@ use Rattle.element_row_cubic.specs.Row.{atOffset}
 use Rattle.element_row_cubic.specs.Steps.{differences, stepped, Steps}
 use Rattle.element_row_cubic.proofs.Rises.{steps-on, may-step}
 use Rattle.element_spans.specs.Span.{laid}
-use Rattle.element_spans.specs.Needs.{Level}
+use Rattle.element_spans.specs.Needs.{FitsAt}
 use Rattle.element_spans.proofs.Laid.{laid-length, laid-none, laid-next, laid-all}
 use Rattle.element_spans.proofs.fill_levels.Statement.{statement}
 use Rattle.element_spans.proofs.fill_levels.Tie as tie
@@ -49,7 +49,7 @@ module _ (c : tie.At-loop Inv-loop μ-loop) where
   kept = ap length (held .1) ∙ laid-length _ _ _ _
 
 module _ (c : tie.In-loop Inv-loop μ-loop) where
-  asked : let a = start (c .before) .args in Level (a .cubic) (a .offset + c .before .loop .k) (a .d)
+  asked : let a = start (c .before) .args in FitsAt (a .cubic) (a .offset + c .before .loop .k) (a .d)
   asked = start (c .before) .pre .0 (c .before .loop .k) (c .loop-test .taken)
 
   may : Steps (c .before .loop .z)
@@ -68,8 +68,8 @@ returns c = laid-all _ _ _ (search needs) (omega (arith, c .if1 .taken)) (laid-n
 differences-requires : tie.Need-differences-requires Inv-loop μ-loop
 differences-requires c κs = let l = c .before .pre .0 0 (omega (arith, c .if1 .left)) in (omega (arith, l .near), l .reached)
 
-level-requires : tie.Need-level-requires Inv-loop μ-loop
-level-requires c κs = let l = c .before in rw (value l .reads, value-is (start (l .before) .args .cubic) _ (held (l .before) .0)) (asked l .level)
+rounded-level-requires : tie.Need-rounded-level-requires Inv-loop μ-loop
+rounded-level-requires c κs = let l = c .before in rw (value l .reads, value-is (start (l .before) .args .cubic) _ (held (l .before) .0)) (asked l .level)
 
 slice-set-from-row : tie.Need-slice-set-from-row Inv-loop μ-loop
 slice-set-from-row c = let l = c .before .before in omega (arith, kept (l .before), l .loop-test .taken, start (l .before) .pre .1)
@@ -79,7 +79,7 @@ loop-again c = let l = c .before .before .before in let a = start (l .before) .a
   search needs,
   λ p e. let h = l .before .loop .inv .1 p e in (
     c .stepped .ensures ∙ ap stepped (h .0) ∙ steps-on p (a .offset + k) ∙ ap (λ n. differences p n) (add-assoc (a .offset) k 1),
-    laid-next _ _ _ _ (h .1) (unchanged w32 (c .before .level .ok) ∙ c .before .level .ensures ∙ ap (λ z. round z (natAbs (a .d .value))) (value l .reads ∙ value-is p _ (h .0))),
+    laid-next _ _ _ _ (h .1) (unchanged w32 (c .before .rounded-level .ok) ∙ c .before .rounded-level .ensures ∙ ap (λ z. round z (natAbs (a .d .value))) (value l .reads ∙ value-is p _ (h .0))),
   ),
 )
 
@@ -96,7 +96,7 @@ fill-levels-spec =
     differences-requires
     (λ c. (search needs, λ p e. (none p _ e, laid-none _ _ _)))
     (λ c. search needs)
-    level-requires
+    rounded-level-requires
     (λ c. record { fits = omega (arith, asked (c .before .before) .near) })
     (λ c. search needs)
     slice-set-from-row

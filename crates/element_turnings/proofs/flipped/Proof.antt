@@ -6,9 +6,8 @@ use lib.IntN.{pos}
 use mir.Syntax.{w64}
 use Rattle.integers.proofs.Operand.{Operand, literal, known, stored, opposite, _⊞_, _⊠_, asks, gives}
 use Rattle.element_sibson.specs.Element.{flipped}
-use Rattle.element_readings.specs.Bounds.{listed}
-use Rattle.element_turnings.specs.Doubled.{halves}
-use Rattle.element_turnings.proofs.Sizes.{coefficient-within}
+use Rattle.element_cell.specs.Coefficients.{listed, halves}
+use Rattle.element_cell.proofs.Coefficients.{coefficient-within}
 use Rattle.element_turnings.proofs.flipped.Statement.{statement}
 use Rattle.element_turnings.proofs.flipped.Tie as tie
 

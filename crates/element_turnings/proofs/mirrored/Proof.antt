@@ -2,8 +2,7 @@
 use mathlib.Core.Path.{_∙_}
 use borrow.Author.Needs.{needs}
 use Rattle.element_sibson.specs.Element.{transposed, flipped, mirrored}
-use Rattle.element_readings.specs.Bounds.{listed}
-use Rattle.element_turnings.specs.Doubled.{halves}
+use Rattle.element_cell.specs.Coefficients.{listed, halves}
 use Rattle.element_turnings.proofs.Sizes.{transposed-sized}
 use Rattle.element_turnings.proofs.mirrored.Statement.{statement}
 use Rattle.element_turnings.proofs.mirrored.Tie as tie

@@ -2,9 +2,8 @@
 use mathlib.Core.List.{[], _∷_}
 use lib.Dec.{lit<}
 use Rattle.element_sibson.specs.Element.{transposed}
-use Rattle.element_readings.specs.Bounds.{listed}
-use Rattle.element_turnings.specs.Doubled.{halves}
 use Rattle.integers.proofs.Parameters.{kept}
+use Rattle.element_cell.specs.Coefficients.{listed, halves}
 use Rattle.element_turnings.proofs.transposed.Statement.{statement}
 use Rattle.element_turnings.proofs.transposed.Tie as tie
 

@@ -3,11 +3,11 @@ use Prim.Native.Nat.{ℕ, suc, _+_, _<_, _≤_}
 use mathlib.Core.List.{[], _∷_}
 use native.Mathlib.Numerals.{add-one}
 use native.Mathlib.Omega.{arith}
+use Rattle.element_cell.specs.Corners.{arrays, three}
 use borrow.Author.Needs.{needs}
 use mir.Syntax.{w64}
 use mir.Val.{Fits}
 use Rattle.sheet_calls.proofs.WellFormed.{accepted-laws, nodes-there}
-use Rattle.element_corners.specs.Held.{arrays, three}
 use Rattle.surface_of_sheet.specs.Surface.{nodeNumbers, nodesOf}
 use Rattle.surface_cells.proofs.corner_nodes.Statement.{statement}
 use Rattle.surface_cells.proofs.corner_nodes.Tie as tie

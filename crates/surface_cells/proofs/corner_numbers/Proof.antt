@@ -2,8 +2,9 @@
 use mathlib.Core.Path.{_∙_, ap, subst⁻¹}
 use borrow.Author.Needs.{needs}
 use Rattle.element_sibson.specs.Element.{Nodes, cornerNumbers}
-use Rattle.element_corners.specs.Held.{arrays, cell, Measured}
-use Rattle.element_corners.proofs.Arrays.{held}
+use Rattle.element_cell.specs.Cell.{cell}
+use Rattle.element_cell.specs.Corners.{arrays, Measured}
+use Rattle.element_cell.proofs.Arrays.{held}
 use Rattle.surface_of_sheet.proofs.Cells.{measured}
 use Rattle.surface_cells.proofs.corner_numbers.Statement.{statement}
 use Rattle.surface_cells.proofs.corner_numbers.Tie as tie

@@ -2,9 +2,9 @@
 use denote.Ref.{now}
 use mathlib.Core.Path.{_∙_, ap, ap₂, subst⁻¹}
 use mathlib.Core.List.{[], _∷_}
-use Rattle.element_readings.specs.Reading as reading
+use Rattle.element_readings.specs.Reading.{levelOf, tiltXOf, tiltYOf, bendXXOf, bendXYOf, bendYYOf}
 use Rattle.sheet_calls.proofs.Chains.{HasPixel, reading-held}
-use Rattle.surface_answers.specs.Answers.{answered, Small}
+use Rattle.surface_answers.specs.Answers.{answered, FitsFloat}
 use Rattle.surface_of_sheet.specs.Surface.{levelAt, tiltXAt, tiltYAt, bendXXAt, bendXYAt, bendYYAt, level, tiltX, tiltY, bendXX, bendXY, bendYY}
 use Rattle.surface_of_sheet.specs.Read.{numbers}
 use Rattle.surface_of_sheet.proofs.Sizes.{small-level, small-tilts, small-bends}
@@ -19,37 +19,37 @@ held s = reading-held _ _ _ _ (s .pre)
 evaluates : (c : tie.After-p) → let s = c .before .before .before .before in Evaluated (now (s .args .sheet)) (s .args .x) (s .args .y) (c .before .before .locate .result)
 evaluates c = let d = c .before .before in let h = held (d .before .before) in evaluated _ _ _ (h .accepted) (h .inside) (d .locate .ensures)
 
-level-requires : tie.Need-level-requires
+level-answer-requires : tie.Need-level-answer-requires
 unfolding level levelAt
-level-requires c κs = let d = c .before in let e = evaluates d in let h = held (d .before .before .before .before) in
-    (e .sized, e .inside, subst⁻¹ Small (same e reading.level) (small-level _ _ _ (h .accepted) (h .inside)))
+level-answer-requires c κs = let d = c .before in let e = evaluates d in let h = held (d .before .before .before .before) in
+    (e .sized, e .inside, subst⁻¹ FitsFloat (same e levelOf) (small-level _ _ _ (h .accepted) (h .inside)))
 
 returns : tie.Need-returns
 unfolding level levelAt numbers
 returns c = let i = c .before in let e = evaluates (i .before) in
-    rw (i .if1 .taken) (c .level .ensures ∙ ap (λ z. answered 0 (z ∷ [])) (same e reading.level))
+    rw (i .if1 .taken) (c .level-answer .ensures ∙ ap (λ z. answered 0 (z ∷ [])) (same e levelOf))
 
-tilt-requires : tie.Need-tilt-requires
+tilt-answer-requires : tie.Need-tilt-answer-requires
 unfolding tiltX tiltY tiltXAt tiltYAt
-tilt-requires c κs = let d = c .before .before in let e = evaluates d in let h = held (d .before .before .before .before) in
+tilt-answer-requires c κs = let d = c .before .before in let e = evaluates d in let h = held (d .before .before .before .before) in
     let t = small-tilts _ _ _ (h .accepted) (h .inside) in
-    (e .sized, e .inside, subst⁻¹ Small (same e reading.tiltX) (t .0), subst⁻¹ Small (same e reading.tiltY) (t .1))
+    (e .sized, e .inside, subst⁻¹ FitsFloat (same e tiltXOf) (t .0), subst⁻¹ FitsFloat (same e tiltYOf) (t .1))
 
 returns-2 : tie.Need-returns-2
 unfolding tiltX tiltY tiltXAt tiltYAt numbers
 returns-2 c = let i = c .before in let e = evaluates (i .before .before) in
-    rw (i .if2 .taken) (c .tilt .ensures ∙ ap₂ (λ z w. answered 1 (z ∷ w ∷ [])) (same e reading.tiltX) (same e reading.tiltY))
+    rw (i .if2 .taken) (c .tilt-answer .ensures ∙ ap₂ (λ z w. answered 1 (z ∷ w ∷ [])) (same e tiltXOf) (same e tiltYOf))
 
-bend-requires : tie.Need-bend-requires
+bend-answer-requires : tie.Need-bend-answer-requires
 unfolding bendXX bendXY bendYY bendXXAt bendXYAt bendYYAt
-bend-requires c κs = let d = c .before .before in let e = evaluates d in let h = held (d .before .before .before .before) in
+bend-answer-requires c κs = let d = c .before .before in let e = evaluates d in let h = held (d .before .before .before .before) in
     let b = small-bends _ _ _ (h .accepted) (h .inside) in
-    (e .sized, e .inside, subst⁻¹ Small (same e reading.bendXX) (b .0), subst⁻¹ Small (same e reading.bendXY) (b .1), subst⁻¹ Small (same e reading.bendYY) (b .2))
+    (e .sized, e .inside, subst⁻¹ FitsFloat (same e bendXXOf) (b .0), subst⁻¹ FitsFloat (same e bendXYOf) (b .1), subst⁻¹ FitsFloat (same e bendYYOf) (b .2))
 
 returns-3 : tie.Need-returns-3
 unfolding bendXX bendXY bendYY bendXXAt bendXYAt bendYYAt
 returns-3 c = let i = c .before in let e = evaluates (i .before .before) in
-    c .bend .ensures ∙ (λ t. answered 2 (same e reading.bendXX t ∷ same e reading.bendXY t ∷ same e reading.bendYY t ∷ []))
+    c .bend-answer .ensures ∙ (λ t. answered 2 (same e bendXXOf t ∷ same e bendXYOf t ∷ same e bendYYOf t ∷ []))
     ∙ kind-bend _ _ _ _ (i .before .if1 .left) (i .if2 .left)
 
 pub reading-spec : {M : Type 1} → statement M
@@ -57,9 +57,9 @@ reading-spec =
     tie.close
     (tie.spec
     (λ c κs. let h = held (c .before) in (h .accepted, h .inside))
-    level-requires
+    level-answer-requires
     returns
-    tilt-requires
+    tilt-answer-requires
     returns-2
-    bend-requires
+    bend-answer-requires
     returns-3)

@@ -12,8 +12,8 @@ on-axis-requires-2 c κs =
     let p = c .before .before .before .before .before .pre in
     rw (c .rows .ensures .0, c .before .y-lines-offset .ensures .0) (y-axis _ (p .0), y-between _ (p .0) _ _ (p .1))
 
-piece-requires : tie.Need-piece-requires
-piece-requires c κs =
+piece-at-requires : tie.Need-piece-at-requires
+piece-at-requires c κs =
     let r = c .before in
     let y = r .before in
     let x = y .before in
@@ -26,7 +26,7 @@ returns c =
     let r = d .before in
     let y = r .before in
     let x = y .before in
-    rw (c .piece .ensures, d .on-axis2 .ensures, r .rows .ensures .0, y .y-lines-offset .ensures .0, x .on-axis .ensures, x .before .columns .ensures .0)
+    rw (c .piece-at .ensures, d .on-axis2 .ensures, r .rows .ensures .0, y .y-lines-offset .ensures .0, x .on-axis .ensures, x .before .columns .ensures .0)
     (place-is _ _ _)
 
 pub find-spec : {M : Type 1} → statement M
@@ -38,5 +38,5 @@ find-spec =
     (λ c κs. header-there _ (c .before .before .before .pre .0))
     (λ c κs. header-there _ (c .before .before .before .before .pre .0))
     on-axis-requires-2
-    piece-requires
+    piece-at-requires
     returns)

@@ -8,11 +8,11 @@ use native.Mathlib.Numerals.{add-one}
 use native.Mathlib.Omega.{arith}
 use borrow.Author.Needs.{needs}
 use lib.IntN.{ℤ}
-use Rattle.element_readings.specs.Bounds.{largest, AllWithin}
 use Rattle.element_sibson.specs.Element.{cornerNumbers}
-use Rattle.element_corners.specs.Held.{corners, arrays, cell}
-use Rattle.element_corners.proofs.Arrays.{held}
-use Rattle.element_evaluation.specs.declared.Pixel.{Pixel}
+use Rattle.element_cell.specs.Cell.{cell}
+use Rattle.element_cell.specs.Corners.{corners, arrays, largest, AllWithin}
+use Rattle.element_cell.specs.declared.Pixel.{Pixel}
+use Rattle.element_cell.proofs.Arrays.{held}
 use Rattle.sheet_layout.specs.Format.{lineX}
 use Rattle.sheet_calls.proofs.WellFormed.{lines-there}
 use Rattle.surface_of_sheet.specs.Place.{HasCell}

@@ -5,8 +5,7 @@ use lib.IntN.{pos}
 use mir.Syntax.{w64}
 use Rattle.integers.proofs.Operand.{literal, stored, _⊠_, asks, gives}
 use Rattle.element_sibson.specs.Cubic.{r², r³, r²s, byR}
-use Rattle.element_readings.specs.Bounds.{listed}
-use Rattle.element_turnings.specs.Doubled.{halves}
+use Rattle.element_cell.specs.Coefficients.{listed, halves}
 use Rattle.element_evaluation.proofs.Derived.{k-at}
 use Rattle.element_evaluation.proofs.derivatives.by_rr.Statement.{statement}
 use Rattle.element_evaluation.proofs.derivatives.by_rr.Tie as tie

@@ -1,0 +1,5 @@
+pub mod Sides
+pub mod Arrays
+pub mod Coefficients
+pub mod Names
+pub mod Pieces

@@ -1,0 +1,4 @@
+pub mod Cell
+pub mod Corners
+pub mod Coefficients
+pub mod Pieces
