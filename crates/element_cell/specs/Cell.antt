@@ -19,7 +19,7 @@ side (suc l) = record { number = suc l; above = omega arith }
 unfoldable pub cell : ℕ → ℕ → Cell
 cell w h = record { W = side w; H = side h }
 
--- a pixel's cell, and its place there
+-- a pixel's cell, and its point there
 abbrev pub pixelCell : Pixel → Cell
 pixelCell p = cell (p .width) (p .height)
 

@@ -10,7 +10,7 @@ use Rattle.element_sibson.specs.Element.{Nodes, CornerNumbers, cornerNumbers}
 
 -- ---- how the code holds them
 
--- a corner's place in the order of 01: 00, 10, 01, 11
+-- a corner's index in the order of 01: 00, 10, 01, 11
 abbrev pub cornerIndex : Corner → ℕ
 cornerIndex leftTop = 0
 cornerIndex rightTop = 1

@@ -74,7 +74,7 @@ fn slope(c: [i64; 6], p: Pixel, x: i64, y: i64) -> i64
     requires { ⌜ EachWithin (3 * (256 * largest)) c × PixelInCell p × Factor x × Factor y ⌝ }
     ensures { λ r. ⌜ r ≡ round (quadraticAt c (scaledOf (pixelCell p) (p .a) (p .b))) (2 * (natAbs x * natAbs y)) ⌝ }
 {
-    over(quadratic(c, scaled(p)), x, y)
+    over(quadratic(c, scaled_point(p)), x, y)
 }
 
 // The polynomial of degree 1 with these doubled coefficients is 2 W H times the second derivative; over 2 x y, where x y is W H times W², W H or H², it is
@@ -83,7 +83,7 @@ fn curvature(c: [i64; 3], p: Pixel, x: i64, y: i64) -> i64
     requires { ⌜ EachWithin (6 * (256 * largest)) c × PixelInCell p × Factor x × Factor y ⌝ }
     ensures { λ r. ⌜ r ≡ round (pos 64 *ℤ linearAt c (scaledOf (pixelCell p) (p .a) (p .b))) (2 * (natAbs x * natAbs y)) ⌝ }
 {
-    over(64 * linear(c, scaled(p)), x, y)
+    over(64 * linear(c, scaled_point(p)), x, y)
 }
 
 // n / (2 x y) rounded by the rule, for powers x and y of a width and a height.
@@ -114,7 +114,7 @@ fn linear(c: [i64; 3], z: [i64; 3]) -> i64
 }
 
 // 1, r and s at the pixel, times W H
-fn scaled(p: Pixel) -> [i64; 3]
+fn scaled_point(p: Pixel) -> [i64; 3]
     requires { ⌜ PixelInCell p ⌝ }
     ensures { λ r. ⌜ r ≡ scaledOf (pixelCell p) (p .a) (p .b) ⌝ }
 {

@@ -22,7 +22,7 @@ use Rattle.element_sibson.proofs.Finite.{everyPiece, every-piece, everyCorner, 
 use Rattle.element_sibson.proofs.Jets.{≋-sym, ≋-trans, none}
 use Rattle.element_sibson.proofs.Quote.{Cubicₑ, cubicOfₑ}
 use Rattle.element_sibson.proofs.Evaluate.{zeroes, zeroes-none, flatₑ}
-use Rattle.element_sibson.proofs.Places.{joins, joined, smooth-at, flat, no-square, has, has-numbers}
+use Rattle.element_sibson.proofs.Meetings.{joins, joined, smooth-at, flat, no-square, has, has-numbers}
 use Rattle.element_sibson.proofs.Coefficients.{coefficient-of, Zero}
 use Rattle.element_sibson.proofs.Rotation.{rotatedSet, onSide, smooth-rotated, square-rotated, NothingAtCorners, corners-rotated, zero-rotated}
 

@@ -11,7 +11,7 @@ use Rattle.element_sibson.specs.Cubic.{Cell, pixel, Cubic, value, jet}
 use Rattle.element_sibson.proofs.Quote.{Quotient, _/ₑ_, valueₑ, equal, anyₑ, cubic}
 use Rattle.element_readings.specs.Reading.{rounded, levelOf}
 use Rattle.element_readings.proofs.Rounded.{rounded-≈}
-use Rattle.element_row_cubic.specs.Row.{down, alongRow, atOffset, cubesOf, Rows}
+use Rattle.element_row_cubic.specs.Row.{down, alongRow, atOffset, cubesOf, RowLaws}
 
 -- from variable i on: a, W, b and H
 abbrev pub rₑ : ℕ → Quotient
@@ -49,5 +49,5 @@ levels : (C : Cell) (f : Cubic) (a b : ℕ) → levelOf C f (pixel C a b) ≡ ro
 unfolding levelOf jet
 levels C f a b = rounded-over (atOffset (alongRow C f b) a) (f .divisor *⁺ cubesOf C) (heights C f a b)
 
-pub rows : Rows
-rows = record { heights = heights; levels = levels }
+pub row-laws : RowLaws
+row-laws = record { heights = heights; levels = levels }

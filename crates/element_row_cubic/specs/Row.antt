@@ -30,7 +30,7 @@ atOffset p a = getD p 0 (pos 0) +ℤ getD p 1 (pos 0) *ℤ pos a +ℤ getD p 2 (
 unfoldable pub cubesOf : Cell → Positive
 cubesOf C = C .W *⁺ C .W *⁺ C .W *⁺ (C .H *⁺ C .H *⁺ C .H)
 
-pub record Rows : Type 0 where
+pub record RowLaws : Type 0 where
   pub heights : (C : Cell) (f : Cubic) (a b : ℕ) → value f (pixel C a b) ≈ whole (atOffset (alongRow C f b) a) ÷ (f .divisor *⁺ cubesOf C)
   -- so a level takes the value at its offset and one rounding
   pub levels : (C : Cell) (f : Cubic) (a b : ℕ) → levelOf C f (pixel C a b) ≡ round (atOffset (alongRow C f b) a) (f .divisor .number * cubesOf C .number)

@@ -1,9 +1,9 @@
 // A theorem that belongs to no function is the contract of one that returns 0, so that the gate asks for its proof.
 ghost use mathlib.Core.Path.{_≡_};
-ghost use Rattle.element_row_cubic.specs.Row.{Rows};
+ghost use Rattle.element_row_cubic.specs.Row.{RowLaws};
 
-pub fn rows() -> u64
-    ensures { λ r. ⌜ (r ≡ 0) × Rows ⌝ }
+pub fn row_laws() -> u64
+    ensures { λ r. ⌜ (r ≡ 0) × RowLaws ⌝ }
 {
     0
 }

@@ -16,7 +16,7 @@ use Rattle.element_sibson.proofs.Finite.{every-piece, everyCorner, ever
 use Rattle.element_sibson.proofs.Jets.{≋-trans}
 use Rattle.element_sibson.proofs.Quote.{evaluated, three}
 use Rattle.element_sibson.proofs.QuoteElement.{numbersₑ, elementₑ, sibson-is}
-use Rattle.element_sibson.proofs.Places.{given, onLine, joins, joined, smooth-at, flat, no-square, has, has-numbers}
+use Rattle.element_sibson.proofs.Meetings.{given, onLine, joins, joined, smooth-at, flat, no-square, has, has-numbers}
 
 abbrev two : Positive
 two = positive 2 tt

@@ -4,7 +4,7 @@ pub mod Jets
 pub mod Evaluate
 pub mod QuoteElement
 pub mod Finite
-pub mod Places
+pub mod Meetings
 pub mod Coefficients
 pub mod Exists
 pub mod SharedEdges

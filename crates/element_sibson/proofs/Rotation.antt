@@ -15,7 +15,7 @@ use Rattle.element_sibson.proofs.Fractions.{≈-sym, ≈-trans, ≈-·,
 use Rattle.element_sibson.proofs.Finite.{every-piece, everyCorner, every-corner, implies, implied}
 use Rattle.element_sibson.proofs.Jets.{≋-sym, ≋-trans, _≈ₚ_, jet-at, none}
 use Rattle.element_sibson.proofs.Coefficients.{Zero}
-use Rattle.element_sibson.proofs.Places.{SmoothAt}
+use Rattle.element_sibson.proofs.Meetings.{SmoothAt}
 use Rattle.element_sibson.proofs.Turnings.{transposing, flipping}
 use Rattle.element_sibson.proofs.Quote.{complementₑ, _·ₑ_, nil, Cubicₑ, valueₑ, byRₑ, bySₑ, transposedₑ, flippedₑ, squareₑ, equal, anyₑ, rₑ, sₑ, any, cubic}
 

@@ -14,7 +14,7 @@ use Rattle.element_sibson.proofs.Jets.{≋-sym, ≋-trans}
 use Rattle.element_sibson.proofs.Quote.{complementₑ, Quotient, wholeₑ, _+ₑ_, _-ₑ_, _*ₑ_, _·ₑ_, _÷ₑ_, Cubicₑ, byRₑ, bySₑ, Jetₑ, decided, jets, evaluated}
 use Rattle.element_sibson.proofs.Evaluate.{numerator, cubes, common, value-is, commonₑ}
 use Rattle.element_sibson.proofs.QuoteElement.{Cornersₑ, sibsonₑ, numbersₑ}
-use Rattle.element_sibson.proofs.Places.{Wₑ, Hₑ, tₑ, given}
+use Rattle.element_sibson.proofs.Meetings.{Wₑ, Hₑ, tₑ, given}
 
 -- along an edge of length L from node a to node b, the slope along it first
 unfoldable pub along : Positive → Jet ℤ → Jet ℤ → ℚ → Jet ℚ

@@ -31,7 +31,7 @@ inOrder n =
 
 -- ---- piece 0
 
--- a power's place in a row
+-- a power's column
 abbrev pub column : Power → ℕ
 column one = 0
 column r¹ = 1

@@ -23,7 +23,7 @@ use Rattle.element_turnings.proofs.Joined.{joined}
 use Rattle.element_turnings.proofs.Sizes.{piece-sized}
 use Rattle.element_row_cubic.specs.Row.{alongRow, atOffset, cubesOf, reach}
 use Rattle.element_row_cubic.proofs.Denominators.{denominates}
-use Rattle.element_row_cubic.proofs.Heights.{rows}
+use Rattle.element_row_cubic.proofs.Heights.{row-laws}
 use Rattle.element_row_cubic.proofs.RowBounds.{row-reach}
 use Rattle.element_spans.specs.Span.{toRight, pixelPiece, cellLevel}
 use Rattle.element_spans.specs.Needs.{FitsCell, FitsAlong}
@@ -56,7 +56,7 @@ module _ {n : CornerNumbers} {p : Pixel} {count : ℕ} {q : Piece} {cubic : List
   unfolding cellLevel halves constants
   levels-are k l =
       (λ t. round (atOffset (doubled t) (add-assoc (p .a) from k t)) (natAbs (divisor t .value)))
-      ∙ sym (rows .levels (pixelCell p) (halves (listed (sibson n q))) (p .a + (from + k)) (p .b))
+      ∙ sym (row-laws .levels (pixelCell p) (halves (listed (sibson n q))) (p .a + (from + k)) (p .b))
       ∙ ap (λ f. levelOf (pixelCell p) f (pixelPoint (toRight p (from + k)))) (joined .back n q)
       ∙ ap (λ q. levelOf (pixelCell p) (sibson n q) (pixelPoint (toRight p (from + k)))) (sym (s .pieces k l))
 

@@ -1,4 +1,4 @@
--- A row with some places rewritten: place by place, two stretches as one, and the row keeps its length. Assumes nothing.
+-- A row with some slots rewritten: slot by slot, two stretches as one, and the row keeps its length. Assumes nothing.
 use Prim.Native.Nat.{ℕ, zero, suc, _+_, _≤_, _<_}
 use mathlib.Core.Path.{_≡_, refl, sym, _∙_, ap}
 use mathlib.Core.List.{List}
@@ -20,19 +20,19 @@ unfolding laid
 laid-same f g at zero row e = refl
 laid-same f g at (suc k) row e = λ t. set (laid-same f g at k row (λ j h. e j (omega arith)) t) (at + k) (e k (omega arith) t)
 
--- n places, and m behind them
+-- n slots, and m behind them
 pub laid-join : (f : ℕ → ℤ) (at n m : ℕ) (row : List ℤ) → laid f at (n + m) row ≡ laid (λ k. f (n + k)) (at + n) m (laid f at n row)
 unfolding laid
 laid-join f at n zero row = ap (λ k. laid f at k row) (add-zero n)
 laid-join f at n (suc m) row = ap (λ k. laid f at k row) (add-suc n m) ∙ (λ t. set (laid-join f at n m row t) (sym (add-assoc at n m) t) (f (n + m)))
 
--- m more places behind n, by a function that goes on where the first stops
+-- m more slots behind n, by a function that goes on where the first stops
 pub laid-more : (f g : ℕ → ℤ) (at n m : ℕ) (row : List ℤ) {now next : List ℤ} → now ≡ laid f at n row → next ≡ laid g (at + n) m now
     → ((k : ℕ) → k < m → g k ≡ f (n + k)) → next ≡ laid f at (n + m) row
 laid-more f g at n m row e h same =
     h ∙ laid-same g (λ k. f (n + k)) (at + n) m _ same ∙ (λ t. laid (λ k. f (n + k)) (at + n) m (e t)) ∙ sym (laid-join f at n m row)
 
--- ---- for a loop: no place yet, one more, and all
+-- ---- for a loop: no slot yet, one more, and all
 
 module _ (f : ℕ → ℤ) (at : ℕ) (row : List ℤ) where
   pub laid-none : row ≡ laid f at 0 row

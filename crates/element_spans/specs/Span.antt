@@ -1,4 +1,4 @@
--- A row of pixels in one cell: the level at each, where its spans end (one for each piece that it crosses), and a row with some places rewritten. Assumes nothing.
+-- A row of pixels in one cell: the level at each, where its spans end (one for each piece that it crosses), and a row with some slots rewritten. Assumes nothing.
 use Prim.Native.Nat.{ℕ, zero, suc, _+_, _*_, _-_, _/_, _≤_, _<_, min}
 use mathlib.Core.Path.{_≡_}
 use mathlib.Core.List.{List}
@@ -43,9 +43,9 @@ pub record SpanLaws : Type 0 where
   pub topOnly : (p : Pixel) (k : ℕ) → PixelInCell (toRight p k) → pixelPiece p ≡ top → ¬ (pixelPiece (toRight p k) ≡ bottom)
   pub bottomOnly : (p : Pixel) (k : ℕ) → PixelInCell (toRight p k) → pixelPiece p ≡ bottom → ¬ (pixelPiece (toRight p k) ≡ top)
 
--- ---- places of a lent row
+-- ---- slots of a lent row
 
--- count places rewritten, from index at on: place at + k holds f k
+-- count slots rewritten, from index at on: slot at + k holds f k
 unfoldable pub laid : (ℕ → ℤ) → ℕ → ℕ → List ℤ → List ℤ
 laid f at zero row = row
 laid f at (suc k) row = set (laid f at k row) (at + k) (f k)

@@ -27,7 +27,7 @@ struct Ends {
     upper: bool,
 }
 
-// Fills `count` places of the row from index `at` on: with the level at a pixel of a cell, and those to its right in the same cell, span by span.
+// Fills `count` slots of the row from index `at` on: with the level at a pixel of a cell, and those to its right in the same cell, span by span.
 pub fn fill_cell(row: &mut [i32], at: usize, count: usize, n: [[i64; 3]; 4], first: Pixel)
     requires { ⌜ AllWithin largest (corners n) × FitsCell first count × (at + count ≤ length (now row)) ⌝ }
     ensures { λ _. ⌜ now (row .exit) ≡ laid (λ k. cellLevel (corners n) (toRight first k)) at count (now (row .entry)) ⌝ }
@@ -118,7 +118,7 @@ fn middle_cubic(n: [[i64; 3]; 4], upper: bool, p: Pixel) -> [i64; 4]
     cubic(n, Piece::Bottom, p)
 }
 
-// Fills `count` places of the row from index `at` on with the levels of a cubic along the row, from an offset on. Three additions lead from a pixel's value to
+// Fills `count` slots of the row from index `at` on with the levels of a cubic along the row, from an offset on. Three additions lead from a pixel's value to
 // the next one's.
 fn fill_levels(
     row: &mut [i32],

@@ -73,7 +73,7 @@ abbrev pub addConstant : ℤ → Poly → Poly
 addConstant a (constant b) = constant (a +ℤ b)
 addConstant a (horner i P Q) = horner i P (addConstant a Q)
 
--- P · xᵢ + Q and a polynomial, added by its places; addP and addQ add P and Q
+-- P · xᵢ + Q and a polynomial, added power by power; addP and addQ add P and Q
 abbrev pub merge : ℕ → Poly → (Poly → Poly) → (Poly → Poly) → Poly → Poly
 merge i P addP addQ (constant b) = horner i P (addQ (constant b))
 merge i P addP addQ (horner j P′ Q′) = chooseBy (compare i j)
@@ -133,8 +133,8 @@ module _ (ρ : List ℤ) where
   addConstant-sound a (horner i P Q) = ap (λ x. evalPoly ρ P *ℤ look ρ i +ℤ x) (addConstant-sound a Q) ∙ +ℤ-left-comm (evalPoly ρ P *ℤ look ρ i) a (evalPoly ρ Q)
 
   -- (p + p′) x + (q + q′) = (p x + q) + (p′ x + q′)
-  same-place : (p p′ q q′ x : ℤ) → (p +ℤ p′) *ℤ x +ℤ (q +ℤ q′) ≡ (p *ℤ x +ℤ q) +ℤ (p′ *ℤ x +ℤ q′)
-  same-place p p′ q q′ x = ap (λ y. y +ℤ (q +ℤ q′)) (*ℤ-distrib-r p p′ x) ∙ +ℤ-interchange (p *ℤ x) (p′ *ℤ x) q q′
+  same-power : (p p′ q q′ x : ℤ) → (p +ℤ p′) *ℤ x +ℤ (q +ℤ q′) ≡ (p *ℤ x +ℤ q) +ℤ (p′ *ℤ x +ℤ q′)
+  same-power p p′ q q′ x = ap (λ y. y +ℤ (q +ℤ q′)) (*ℤ-distrib-r p p′ x) ∙ +ℤ-interchange (p *ℤ x) (p′ *ℤ x) q q′
 
   merge-sound : (i : ℕ) (P Q : Poly) (addP addQ : Poly → Poly)
       → ((r : Poly) → evalPoly ρ (addP r) ≡ evalPoly ρ P +ℤ evalPoly ρ r)
@@ -148,7 +148,7 @@ module _ (ρ : List ℤ) where
       (ap (λ x. evalPoly ρ P *ℤ look ρ i +ℤ x) (hQ (horner j P′ Q′)) ∙ sym (+ℤ-assoc (evalPoly ρ P *ℤ look ρ i) (evalPoly ρ Q) (evalPoly ρ P′ *ℤ look ρ j +ℤ evalPoly ρ Q′)))
       (λ t. trimmed-sound i (addP P′) (addQ Q′)
       ∙ ap₂ (λ x y. x *ℤ look ρ i +ℤ y) (hP P′) (hQ Q′)
-      ∙ same-place (evalPoly ρ P) (evalPoly ρ P′) (evalPoly ρ Q) (evalPoly ρ Q′) (look ρ i)
+      ∙ same-power (evalPoly ρ P) (evalPoly ρ P′) (evalPoly ρ Q) (evalPoly ρ Q′) (look ρ i)
       ∙ ap (λ k. (evalPoly ρ P *ℤ look ρ i +ℤ evalPoly ρ Q) +ℤ (evalPoly ρ P′ *ℤ look ρ k +ℤ evalPoly ρ Q′)) (eqb→eq i j t))
       (ap (λ x. evalPoly ρ P′ *ℤ look ρ j +ℤ x) (merge-sound i P Q addP addQ hP hQ Q′)
       ∙ +ℤ-left-comm (evalPoly ρ P′ *ℤ look ρ j) (evalPoly ρ P *ℤ look ρ i +ℤ evalPoly ρ Q) (evalPoly ρ Q′))

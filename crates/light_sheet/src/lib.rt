@@ -54,7 +54,7 @@ pub fn read(sheet: &[u8], x: u32, y: u32, kind: u32) -> Answer
     surface_pixels::read(sheet, x, y, kind)
 }
 
-// Fills the lent row with the levels at the pixel (x, y) and at those to its right, one for each place, in grains, and answers 0; or, refused (1 to 6, 7, 8),
+// Fills the lent row with the levels at the pixel (x, y) and at those to its right, one for each slot, in grains, and answers 0; or, refused (1 to 6, 7, 8),
 // answers the number and leaves the row as it was.
 pub fn fill_run(sheet: &[u8], x: u32, y: u32, levels: &mut [i32]) -> u32
     ensures answer { λ r. ⌜ r ≡ runRefusal (now (sheet .entry)) x y (length (now (levels .entry))) ⌝ }

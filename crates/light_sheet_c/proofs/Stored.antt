@@ -1,4 +1,4 @@
--- Values that are stored one by one, from the first place on, leave what `over` says, and what that is place by place. Assumes nothing.
+-- Values that are stored one by one, from the first slot on, leave what `over` says, and what that is slot by slot. Assumes nothing.
 use Prim.Native.Nat.{ℕ, zero, suc, _≤_}
 use mathlib.Core.Path.{_≡_, refl, _∙_, ap}
 use mathlib.Core.List.{List, [], _∷_}

@@ -56,7 +56,7 @@ pub extern "C" fn lvs_set_node(
     light_sheet::set_node(sheet, column, row, height, x_slope, y_slope)
 }
 
-// Reads at the pixel (x, y) into the first places of `values`: kind 0 the level, one place; 1 the tilt, two; 2 the bend, three; and answers 0. The places
+// Reads at the pixel (x, y) into the first slots of `values`: kind 0 the level, one slot; 1 the tilt, two; 2 the bend, three; and answers 0. The slots
 // behind keep their contents. Refused (1 to 6, 7, 9), it answers the number, and all three keep theirs.
 #[no_mangle]
 pub extern "C" fn lvs_read(sheet: &[u8], x: u32, y: u32, kind: u32, values: &mut [f64; 3]) -> u32
@@ -66,7 +66,7 @@ pub extern "C" fn lvs_read(sheet: &[u8], x: u32, y: u32, kind: u32, values: &mut
     store(light_sheet::read(sheet, x, y, kind), values)
 }
 
-// Fills the lent row with the levels at the pixel (x, y) and at those to its right, one for each place, in grains, and answers 0; or, refused (1 to 6, 7, 8),
+// Fills the lent row with the levels at the pixel (x, y) and at those to its right, one for each slot, in grains, and answers 0; or, refused (1 to 6, 7, 8),
 // answers the number and leaves the row as it was.
 #[no_mangle]
 pub extern "C" fn lvs_fill_run(sheet: &[u8], x: u32, y: u32, levels: &mut [i32]) -> u32
@@ -76,7 +76,7 @@ pub extern "C" fn lvs_fill_run(sheet: &[u8], x: u32, y: u32, levels: &mut [i32])
     light_sheet::fill_run(sheet, x, y, levels)
 }
 
-// Stores an answer's values in the first places, and gives its number.
+// Stores an answer's values in the first slots, and gives its number.
 fn store(answer: Answer, values: &mut [f64; 3]) -> u32
     ensures answer { λ r. ⌜ r ≡ outcome answer .number ⌝ }
     ensures values { λ r. ⌜ now (values .exit) ≡ over (outcome answer .values) (now (values .entry)) ⌝ }

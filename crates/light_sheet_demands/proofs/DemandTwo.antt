@@ -37,7 +37,7 @@ tie x z e = rounding-laws .tie (x .numerator) (x .denominator .number) (x .denom
     (deduce 3 (λ n d z. (# 1 · (n ⊗ (# 1 ⊗ (# 1 ⊗ # 2)) ≐ (z ⊗ (# 1 ⊗ # 2) ⊕ # 1 ⊗ # 1) ⊗ d)) ∷ [] ⊨ # 2 ⊗ n ≐ (# 2 ⊗ z ⊕ # 1) ⊗ d) tt
     (x .numerator) (pos (x .denominator .number)) z (e .crossed))
 
--- an array of three places has room for the values of any kind
+-- an array of three slots has room for the values of any kind
 stored-first : {s : List ℕ} {x y kind : ℕ} {array array′ : List Float} (c : ReadInto s x y kind array 0 array′) → length array ≡ 3 →
     take (suc kind) array′ ≡ outcome (c .reading) .values
 stored-first {array} c e = let z = sym (c .answer) in let n = all-values (c .isRead) z in

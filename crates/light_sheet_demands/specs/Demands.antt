@@ -69,7 +69,7 @@ pub record FillRun (s : List ℕ) (x y : ℕ) (row : List ℤ) (n : ℕ) (row′
 pub record NodeOffset (s : List ℕ) (i j k : ℕ) : Type 0 where
   pub answer : k ≡ lookedUp s i j .start
 
--- `lvs_read` on a lent array of floats gives n and leaves array′: the number and the values of a reading, these in the first places
+-- `lvs_read` on a lent array of floats gives n and leaves array′: the number and the values of a reading, these in the first slots
 pub record ReadInto (s : List ℕ) (x y kind : ℕ) (array : List Float) (n : ℕ) (array′ : List Float) : Type 0 where
   pub reading : Answer
   pub isRead : Read s x y kind reading
@@ -107,7 +107,7 @@ ofRun = ofSheet (λ u. u .sheet) ++ rule 7 (λ u. offMesh (u .sheet) (u .x) (u .
 
 pub record DemandOne : Type 0 where
   -- "The memory a caller lends, sheet or row, comes back with only those places altered that the call is there to write, and after a refusal with none
-  -- altered." `set_node` is there to write the bytes of a node, `fill_run` all places of the row, and `lvs_read` as many of the array as the kind has values: one,
+  -- altered." `set_node` is there to write the bytes of a node, `fill_run` all slots of the row, and `lvs_read` as many of the array as the kind has values: one,
   -- two or three. What is lent by `&`, to the other calls and as the sheet of `fill_run` and `lvs_read`, none can alter
   pub sheetSize : {s t : List ℕ} {i j n : ℕ} {v : Node} → SetNode s i j v n t → length t ≡ length s
   pub beforeNode : {s t : List ℕ} {i j n : ℕ} {v : Node} → SetNode s i j v n t → (k : ℕ) → k < nodeOffset s i j → byteAt t k ≡ byteAt s k
@@ -172,7 +172,7 @@ pub record DemandTwo : Type 0 where
       (quotient (positive 4096 tt) (rounded (pos 64 ·ℚ pixelBend s x y .yy)))
   pub runs : {s : List ℕ} {x y : ℕ} {row row′ : List ℤ} → FillRun s x y row 0 row′ → (k : ℕ) → k < length row →
       getD row′ k (pos 0) ≡ rounded (pixelJet s (x + k) y .height)
-  -- what a reading gives in C: its values, in the first places of the array, one, two or three
+  -- what a reading gives in C: its values, in the first slots of the array, one, two or three
   pub arrays : {s : List ℕ} {x y kind : ℕ} {array array′ : List Float} (c : ReadInto s x y kind array 0 array′) → length array ≡ 3 →
       take (suc kind) array′ ≡ outcome (c .reading) .values
   -- the element of NISTIR 6718: its formulas 105 to 108, put right where 01 says, for the corner numbers of each cell

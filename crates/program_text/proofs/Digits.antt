@@ -24,7 +24,7 @@ spelled-more k n h = rw (le-ltb n 10 h) refl
 tenth-below : (k n : ℕ) → n < 10 ^ suc k → n / 10 < 10 ^ k
 tenth-below k n h = omega (arith, pow-suc 10 k)
 
--- more places than a number has digits change nothing
+-- more digits than a number has change nothing
 enough : (k n : ℕ) → n < 10 ^ suc k → spelled (suc (suc k)) n ≡ spelled (suc k) n
 enough zero n h = spelled-one 1 n h ∙ rw (spelled-one 0 n h) refl
 enough (suc k) n h =

@@ -33,7 +33,7 @@ bytesIn s p = take (p .size) (drop (p .start) s)
 pub record Part (s r : RefT (List ℕ)) (p : Span) : Type 0 where
   pub bytes : now r ≡ bytesIn (now s) p
   pub block : ptr r .0 ≡ ptr s .0
-  pub place : ptr r .1 ≡ p .start + ptr s .1
+  pub address : ptr r .1 ≡ p .start + ptr s .1
 
 -- ---- setting
 

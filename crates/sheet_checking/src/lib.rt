@@ -9,7 +9,7 @@ ghost use Rattle.sheet_calls.specs.Refusals.{some, otherMark, otherVersion, oth
 use sheet_layout::HEADER_SIZE;
 use sheet_layout::NODE_SIZE;
 use sheet_layout::columns;
-use sheet_layout::line;
+use sheet_layout::line_from;
 use sheet_layout::node_count;
 use sheet_layout::nodes_offset;
 use sheet_layout::rows;
@@ -106,10 +106,10 @@ fn wrong_axis(sheet: &[u8], start: usize, lines: usize) -> bool
     requires { ⌜ (0 < lines) × (start + 2 * lines ≤ length (now sheet)) ⌝ }
     ensures { λ r. ⌜ r ≡ some (wrongLine (lineFrom (now (sheet .entry)) start)) lines ⌝ }
 {
-    let mut wrong = 4096 < line(sheet, start, 0);
+    let mut wrong = 4096 < line_from(sheet, start, 0);
     let mut k = 1;
     while k < lines {
-        wrong = wrong | wrong_step(line(sheet, start, k - 1), line(sheet, start, k));
+        wrong = wrong | wrong_step(line_from(sheet, start, k - 1), line_from(sheet, start, k));
         k += 1;
     }
     wrong
@@ -126,25 +126,25 @@ fn wrong_nodes(sheet: &[u8]) -> bool
     requires { ⌜ length (now sheet) ≡ sizeOf (columns (now sheet)) (rows (now sheet)) ⌝ }
     ensures { λ r. ⌜ r ≡ wrongNodes (now (sheet .entry)) ⌝ }
 {
-    wrong_numbers(sheet, nodes_offset(sheet), 3 * node_count(sheet))
+    wrong_words(sheet, nodes_offset(sheet), 3 * node_count(sheet))
 }
 
 // Whether one of the `count` signed numbers from index `start` on is out of range. No early exit here either.
-fn wrong_numbers(sheet: &[u8], start: usize, count: usize) -> bool
+fn wrong_words(sheet: &[u8], start: usize, count: usize) -> bool
     requires { ⌜ start + 2 * count ≤ length (now sheet) ⌝ }
     ensures { λ r. ⌜ r ≡ some (λ k. not (slopeIn (signed (wordAt (now (sheet .entry)) (start + 2 * k))))) count ⌝ }
 {
     let mut wrong = false;
     let mut k = 0;
     while k < count {
-        wrong = wrong | !in_range(word(sheet, start + 2 * k));
+        wrong = wrong | !word_in_range(word(sheet, start + 2 * k));
         k += 1;
     }
     wrong
 }
 
 // Of the 16 bits of a signed number: up to 4,095, or from 65,536 − 4,095 on. Heights and slopes have the same range.
-fn in_range(bits: u32) -> bool
+fn word_in_range(bits: u32) -> bool
     requires { ⌜ bits < 65536 ⌝ }
     ensures { λ r. ⌜ r ≡ slopeIn (signed bits) ⌝ }
 {

@@ -44,7 +44,7 @@ pub fn y_lines_offset(sheet: &[u8]) -> usize
 }
 
 // The position of line k of an axis whose positions start at an index.
-pub fn line(sheet: &[u8], start: usize, k: usize) -> u32
+pub fn line_from(sheet: &[u8], start: usize, k: usize) -> u32
     requires { ⌜ start + 2 * k + 1 < length (now sheet) ⌝ }
     ensures { λ r. ⌜ (r ≡ lineFrom (now (sheet .entry)) start k) × (r < 65536) ⌝ }
 {
@@ -56,7 +56,7 @@ pub fn line_x(sheet: &[u8], i: usize) -> u32
     requires { ⌜ (nodesOffset (now sheet) ≤ length (now sheet)) × (i < columns (now sheet)) ⌝ }
     ensures { λ r. ⌜ r ≡ lineX (now (sheet .entry)) i ⌝ }
 {
-    line(sheet, HEADER_SIZE, i)
+    line_from(sheet, HEADER_SIZE, i)
 }
 
 // The position of a horizontal line.
@@ -64,7 +64,7 @@ pub fn line_y(sheet: &[u8], j: usize) -> u32
     requires { ⌜ (nodesOffset (now sheet) ≤ length (now sheet)) × (j < rows (now sheet)) ⌝ }
     ensures { λ r. ⌜ r ≡ lineY (now (sheet .entry)) j ⌝ }
 {
-    line(sheet, y_lines_offset(sheet), j)
+    line_from(sheet, y_lines_offset(sheet), j)
 }
 
 // Where the nodes start.

@@ -1,4 +1,4 @@
--- A run that is not refused is no longer than the row buffer, whose first places are then its levels. Assumes nothing.
+-- A run that is not refused is no longer than the row buffer, whose first slots are then its levels. Assumes nothing.
 use Prim.Native.Nat.{ℕ, _≤_}
 use mathlib.Core.Path.{_≡_}
 use mathlib.Core.List.{List}
@@ -15,6 +15,6 @@ use Rattle.surface_runs.proofs.Underway.{to-last}
 pub run-short : (s : List ℕ) (x y count : ℕ) → OnMesh s x y count → count ≤ 4097
 run-short s x y count mesh = omega (arith, to-last s x y count mesh, last-x-near s (mesh .accepted))
 
-pub first-places : (s : List ℕ) (x y count : ℕ) (row : List ℤ) → take count (begun s x y count row) ≡ levelsAlong s x y count
+pub first-slots : (s : List ℕ) (x y count : ℕ) (row : List ℤ) → take count (begun s x y count row) ≡ levelsAlong s x y count
 unfolding begun
-first-places s x y count row = take-at (levelsAlong s x y count) (drop count row) count (levels-length s x y count)
+first-slots s x y count row = take-at (levelsAlong s x y count) (drop count row) count (levels-length s x y count)

@@ -8,10 +8,10 @@ use sheet_checking::sheet_refusal;
 use surface_places::outside;
 use surface_runs::run;
 
-// How many places the row buffer has: no row of pixels is longer, since no line lies beyond 4,096.
+// How many slots the row buffer has: no row of pixels is longer, since no line lies beyond 4,096.
 const ROW_SIZE: usize = 4097;
 
-// Fills the lent row with the levels from (x, y) to the right, one for each place, and answers 0; or, refused, answers the number and leaves the row as it
+// Fills the lent row with the levels from (x, y) to the right, one for each slot, and answers 0; or, refused, answers the number and leaves the row as it
 // was.
 pub fn fill_run(sheet: &[u8], x: u32, y: u32, levels: &mut [i32]) -> u32
     ensures answer { λ r. ⌜ r ≡ runRefusal (now (sheet .entry)) x y (length (now (levels .entry))) ⌝ }
@@ -70,7 +70,7 @@ fn gather(sheet: &[u8], x: u32, y: u32, levels: &mut [i32])
     copy(&row, levels);
 }
 
-// Copies as many places as `to` has.
+// Copies as many slots as `to` has.
 fn copy(from: &[i32], to: &mut [i32])
     requires { ⌜ length (now to) ≤ length (now from) ⌝ }
     ensures { λ _. ⌜ now (to .exit) ≡ take (length (now (to .entry))) (now (from .entry)) ⌝ }

@@ -1,4 +1,4 @@
--- What a run leaves: the row as it was where it is refused, else in each place the level of its pixel. Assumes nothing.
+-- What a run leaves: the row as it was where it is refused, else in each slot the level of its pixel. Assumes nothing.
 use Prim.Native.Nat.{ℕ, zero, suc, _+_, _<_}
 use mathlib.Core.Path.{_≡_, refl, sym, _∙_, ap}
 use mathlib.Core.List.{List, [], _∷_, append-nil}
@@ -15,7 +15,7 @@ use Rattle.surface_of_sheet.specs.Surface.{level}
 use Rattle.surface_of_sheet.specs.Run.{levelsAlong, begun, filled}
 use Rattle.surface_of_sheet.specs.Theorems.{RunLaws}
 
--- one place further along is the pixel one further to the right
+-- one slot further along is the pixel one further to the right
 next : (s : List ℕ) (x y k : ℕ) → level s (suc x + k) y ≡ level s (x + suc k) y
 next s x y k = ap (λ n. level s n y) (suc-add x k ∙ sym (add-suc x k))
 
@@ -32,7 +32,7 @@ levels-at s x y zero k h = absurd (omega (arith, h))
 levels-at s x y (suc count) zero h = rw (add-zero x) refl
 levels-at s x y (suc count) (suc k) h = levels-at s (suc x) y count k (omega (arith, h)) ∙ next s x y k
 
--- ---- a row of which some places are done
+-- ---- a row of which some slots are done
 
 pub none-done : (s : List ℕ) (x y : ℕ) (row : List ℤ) → begun s x y 0 row ≡ row
 unfolding levelsAlong begun

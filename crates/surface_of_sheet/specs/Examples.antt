@@ -21,12 +21,12 @@ use Rattle.surface_of_sheet.specs.Run.{begun, filled}
 -- ---- sheets
 
 -- a node of height 0 with slopes 0
-abbrev pub blank : List ℕ
-blank = 0 ∷ 0 ∷ 0 ∷ 0 ∷ 0 ∷ 0 ∷ []
+abbrev pub flatNode : List ℕ
+flatNode = 0 ∷ 0 ∷ 0 ∷ 0 ∷ 0 ∷ 0 ∷ []
 
 -- lines 0 and w both ways, all numbers 0 but the x-slope of node 00, the low byte first
 abbrev pub steep : ℕ → ℕ → ℕ → List ℕ
-steep w low high = header ++ (0 ∷ 0 ∷ w ∷ 0 ∷ 0 ∷ 0 ∷ w ∷ 0 ∷ []) ++ (0 ∷ 0 ∷ low ∷ high ∷ 0 ∷ 0 ∷ []) ++ blank ++ blank ++ blank
+steep w low high = header ++ (0 ∷ 0 ∷ w ∷ 0 ∷ 0 ∷ 0 ∷ w ∷ 0 ∷ []) ++ (0 ∷ 0 ∷ low ∷ high ∷ 0 ∷ 0 ∷ []) ++ flatNode ++ flatNode ++ flatNode
 
 -- lines 0 and 2, heights 10 and 11 are 2, all x-slopes 64
 abbrev pub plane : List ℕ
@@ -125,7 +125,7 @@ pub record Run : Type 0 where
   pub gives : ℕ
   pub leaves : List ℤ
 
--- a row that has been lent with 7 in each of its places
+-- a row that has been lent with 7 in each of its slots
 abbrev pub sevens : ℕ → List ℤ
 sevens count = replicate count (+ 7)
 
@@ -165,7 +165,7 @@ pub record Examples : Type 0 where
   pub starredRead : Reads starred
   pub furtherRead : Reads further
   pub runsFill : Fills runs
-  -- one place of A's first row done, then two
+  -- one slot of A's first row done, then two
   pub oneDone : begun sheetA 0 0 1 (sevens 3) ≡ + 64 ∷ + 7 ∷ + 7 ∷ []
   pub twoDone : begun sheetA 0 0 2 (sevens 3) ≡ + 64 ∷ + 32 ∷ + 7 ∷ []
   -- as floats: the level 16 of A is 2⁻², its tilt −48, 0 is −3 · 2⁻², +0, its bend 0, 3072, 0 is +0, 3 · 2⁻², +0

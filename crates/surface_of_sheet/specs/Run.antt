@@ -13,10 +13,10 @@ unfoldable pub levelsAlong : List ℕ → ℕ → ℕ → ℕ → List ℤ
 levelsAlong s x y zero = []
 levelsAlong s x y (suc count) = level s x y ∷ levelsAlong s (suc x) y count
 
--- a row of which k places are done: its first k hold their levels, the others what they held
+-- a row of which k slots are done: its first k hold their levels, the others what they held
 unfoldable pub begun : List ℕ → ℕ → ℕ → ℕ → List ℤ → List ℤ
 begun s x y k row = levelsAlong s x y k ++ drop k row
 
--- the lent row, a place for each pixel of the run: refused, as it was; else the levels
+-- the lent row, a slot for each pixel of the run: refused, as it was; else the levels
 unfoldable pub filled : List ℕ → ℕ → ℕ → List ℤ → List ℤ
 filled s x y row = cond (eqb (runRefusal s x y (length row)) 0) (levelsAlong s x y (length row)) row

@@ -64,13 +64,13 @@ pub record RunLaws : Type 0 where
   -- the row keeps its length; refused, it is as it was
   pub size : (s : List ℕ) (x y : ℕ) (row : List ℤ) → length (filled s x y row) ≡ length row
   pub refused : (s : List ℕ) (x y : ℕ) (row : List ℤ) → ¬ (runRefusal s x y (length row) ≡ 0) → filled s x y row ≡ row
-  -- else the sheet is accepted, every pixel of the run lies in the mesh, and place k holds the level of the pixel k to the right
+  -- else the sheet is accepted, every pixel of the run lies in the mesh, and slot k holds the level of the pixel k to the right
   pub accepted : (s : List ℕ) (x y count : ℕ) → runRefusal s x y count ≡ 0 → Accepted s
   pub inside : (s : List ℕ) (x y count : ℕ) → runRefusal s x y count ≡ 0 → (k : ℕ) → k < count → Inside s (x + k) y
   pub levels : (s : List ℕ) (x y : ℕ) (row : List ℤ) → runRefusal s x y (length row) ≡ 0 → (k : ℕ) → k < length row → getD (filled s x y row) k (pos 0) ≡ level s (x + k) y
   -- from every pixel of an accepted sheet's mesh to every one to its right, or itself, a run is not refused
   pub taken : (s : List ℕ) (x y k : ℕ) → Accepted s → Inside s x y → Inside s (x + k) y → runRefusal s x y (suc k) ≡ 0
-  -- k places done, for every k: none is the row as it was, each further place holds its level, all are the run
+  -- k slots done, for every k: none is the row as it was, each further slot holds its level, all are the run
   pub none : (s : List ℕ) (x y : ℕ) (row : List ℤ) → begun s x y 0 row ≡ row
   pub oneMore : (s : List ℕ) (x y k : ℕ) (row : List ℤ) → k < length row → begun s x y (suc k) row ≡ set (begun s x y k row) k (level s (x + k) y)
   pub all : (s : List ℕ) (x y : ℕ) (row : List ℤ) → begun s x y (length row) row ≡ levelsAlong s x y (length row)

@@ -11,7 +11,7 @@ use element_cell::Pixel;
 use element_cell::piece_at;
 use sheet_layout::HEADER_SIZE;
 use sheet_layout::columns;
-use sheet_layout::line;
+use sheet_layout::line_from;
 use sheet_layout::rows;
 use sheet_layout::y_lines_offset;
 
@@ -66,7 +66,7 @@ fn off_axis(sheet: &[u8], start: usize, lines: usize, position: u32) -> bool
     requires { ⌜ Axis (now sheet) start lines ⌝ }
     ensures { λ r. ⌜ r ≡ offAxis (lineFrom (now (sheet .entry)) start) lines position ⌝ }
 {
-    (position < line(sheet, start, 0)) | (line(sheet, start, lines - 1) < position)
+    (position < line_from(sheet, start, 0)) | (line_from(sheet, start, lines - 1) < position)
 }
 
 // Where a position between the first and the last line of an axis lies.
@@ -75,8 +75,8 @@ fn on_axis(sheet: &[u8], start: usize, lines: usize, position: u32) -> OnAxis
     ensures { λ r. ⌜ r ≡ onAxis (lineFrom (now (sheet .entry)) start) (lines - 2) position ⌝ }
 {
     let cell = cell_along(sheet, start, lines, position);
-    let before = line(sheet, start, cell);
-    let after = line(sheet, start, cell + 1);
+    let before = line_from(sheet, start, cell);
+    let after = line_from(sheet, start, cell + 1);
     OnAxis {
         cell: cell,
         offset: (position - before) as usize,
@@ -93,7 +93,7 @@ fn cell_along(sheet: &[u8], start: usize, lines: usize, position: u32) -> usize
     let mut high = lines - 1;
     while low + 1 < high {
         let middle = (low + high) / 2;
-        if line(sheet, start, middle) <= position {
+        if line_from(sheet, start, middle) <= position {
             low = middle;
         } else {
             high = middle;

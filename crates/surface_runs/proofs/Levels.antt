@@ -78,7 +78,7 @@ module _ {s : List ℕ} {t : Strip} {x count done i : ℕ} (at : AtColumn s t x 
 
 -- ---- in all
 
--- places laid one by one are those of the run
+-- slots laid one by one are those of the run
 pub laid-begun : (s : List ℕ) (x y : ℕ) (row : List ℤ) (k : ℕ) → k ≤ length row → laid (λ j. stripLevel s (stripAt s y) (x + j)) 0 k row ≡ begun s x y k row
 unfolding laid
 laid-begun s x y row zero h = sym (none-done s x y row)

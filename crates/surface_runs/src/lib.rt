@@ -23,7 +23,7 @@ pub struct Strip {
     pub height: usize,
 }
 
-// Stores the levels of `count` pixels, from (x, y) to the right, in the first places of the row, strictly from left to right. The other places keep what
+// Stores the levels of `count` pixels, from (x, y) to the right, in the first slots of the row, strictly from left to right. The other slots keep what
 // they hold.
 pub fn run(sheet: &[u8], x: u32, y: u32, row: &mut [i32], count: usize)
     requires { ⌜ OnMesh (now sheet) x y count × (count ≤ length (now row)) ⌝ }

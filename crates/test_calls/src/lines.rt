@@ -10,7 +10,7 @@ pub fn call(verb: &[u8], name: &[u8]) {
 }
 
 // Its first two arguments.
-pub fn place(x: u32, y: u32) {
+pub fn position(x: u32, y: u32) {
     field(x as i64);
     field(y as i64);
 }

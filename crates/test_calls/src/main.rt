@@ -2,7 +2,7 @@
 // tests/vectors/calls.txt, "->" and its number; for a lookup also the bytes that it hands back, for a setting the bytes of the sheet that it changes,
 // for a reading the whole numbers before its division, for a run its levels. The input and the expected output are from tools/test_calls_expected.py.
 // A case is three numbers of 16 bits (the length of its name, that of its sheet, how many calls), the name, the sheet, and 21 bytes for each call: its
-// letter and five numbers of 32 bits (column, row, height, x-slope, y-slope; of a reading x, y, kind; of a run x, y, how many places). Numbers have
+// letter and five numbers of 32 bits (column, row, height, x-slope, y-slope; of a reading x, y, kind; of a run x, y, how many slots). Numbers have
 // their low byte first.
 mod input;
 mod lines;
@@ -19,7 +19,7 @@ use libc::STDOUT_FILENO;
 use lines::answer;
 use lines::call;
 use lines::number_after_blank;
-use lines::place;
+use lines::position;
 use sheet_words::wide;
 use test_printing::field;
 
@@ -92,7 +92,7 @@ fn check(name: &[u8], sheet: &[u8]) {
 
 fn node(name: &[u8], sheet: &[u8], column: u32, row: u32) {
     call(b"node ", name);
-    place(column, row);
+    position(column, row);
     answer(light_sheet::node_refusal(sheet, column, row));
     handed_back(light_sheet::node(sheet, column, row));
     io::write_all(STDOUT_FILENO, b"\n");
@@ -104,7 +104,7 @@ fn set_node(name: &[u8], sheet: &[u8], copy: &mut [u8], v: [u32; 5]) {
     let x_slope = signed(v[3]);
     let y_slope = signed(v[4]);
     call(b"set_node ", name);
-    place(v[0], v[1]);
+    position(v[0], v[1]);
     field(widened(height));
     field(widened(x_slope));
     field(widened(y_slope));

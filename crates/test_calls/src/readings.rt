@@ -1,7 +1,7 @@
 // The call `read`: its line ends in the whole numbers before the division.
 use super::lines::answer;
 use super::lines::call;
-use super::lines::place;
+use super::lines::position;
 use libc::STDOUT_FILENO;
 use surface_answers::Answer;
 use surface_answers::BendReading;
@@ -20,7 +20,7 @@ pub fn divisors() {
 
 pub fn read(name: &[u8], sheet: &[u8], x: u32, y: u32, kind: u32) {
     call(b"read ", name);
-    place(x, y);
+    position(x, y);
     field(kind as i64);
     match light_sheet::read(sheet, x, y, kind) {
         Answer::Level(level) => level_line(level),

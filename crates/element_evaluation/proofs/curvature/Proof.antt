@@ -15,14 +15,14 @@ use Rattle.element_evaluation.proofs.curvature.Tie as tie
 
 abbrev n : tie.After-linear → Operand
 n c = let s = c .before .before in
-    literal (pos 64) ⊠ returned w64 (c .linear .ensures ∙ ap (λ z. linearAt (s .args .c) z) (c .before .scaled .ensures)) (linear-within (s .pre .0) (scaled-each (s .pre .1))) tt
+    literal (pos 64) ⊠ returned w64 (c .linear .ensures ∙ ap (λ z. linearAt (s .args .c) z) (c .before .scaled-point .ensures)) (linear-within (s .pre .0) (scaled-each (s .pre .1))) tt
 
 pub curvature-spec : {M : Type 1} → statement M
 curvature-spec =
     tie.close
     (tie.spec
     (λ c κs. search needs)
-    (λ c κs. (c .before .pre .0, subst⁻¹ (λ l. EachWithin 4096 l) (c .scaled .ensures) (scaled-each (c .before .pre .1))))
+    (λ c κs. (c .before .pre .0, subst⁻¹ (λ l. EachWithin 4096 l) (c .scaled-point .ensures) (scaled-each (c .before .pre .1))))
     (λ c. asks w64 (n c) tt)
     (λ c κs. let s = c .before .before in (within-mono (read-within (stored w64 (n c) tt)) (lit≤ tt), read-factor (s .pre .2), read-factor (s .pre .3)))
     (λ c. let s = c .before .before .before in unchanged w64 (c .over .ok) ∙ over-gives (stored w64 (n (c .before)) tt) (s .pre .2) (s .pre .3) (c .over .ensures)))

@@ -15,7 +15,7 @@ use Rattle.element_row_cubic.specs.Row.{alongRow, atOffset, reach}
 use Rattle.element_row_cubic.proofs.Denominators.{denominates}
 use Rattle.element_row_cubic.proofs.Horner.{at-offset-within}
 use Rattle.element_row_cubic.proofs.RowBounds.{row-reach}
-use Rattle.element_row_cubic.proofs.Heights.{rows}
+use Rattle.element_row_cubic.proofs.Heights.{row-laws}
 use Rattle.element_evaluation.proofs.level_of.Statement.{statement}
 use Rattle.element_evaluation.proofs.level_of.Tie as tie
 
@@ -48,7 +48,7 @@ round-requires c κs = rw (n (c .before) .reads, d c .reads) (ratio c)
 returns : tie.Need-returns
 unfolding halves
 returns c = let e = c .before in let m = e .before in let s = m .before .before in let p = s .args .p in
-    unchanged w64 (c .round .ok) ∙ c .round .ensures ∙ (λ i. round (n m .reads i) (natAbs (d e .reads i))) ∙ sym (rows .levels (pixelCell p) (halves (s .args .k)) (p .a) (p .b))
+    unchanged w64 (c .round .ok) ∙ c .round .ensures ∙ (λ i. round (n m .reads i) (natAbs (d e .reads i))) ∙ sym (row-laws .levels (pixelCell p) (halves (s .args .k)) (p .a) (p .b))
 
 pub level-of-spec : {M : Type 1} → statement M
 level-of-spec = tie.close (tie.spec (λ c κs. search needs) at-offset-requires (λ c κs. search needs) round-requires returns)

@@ -19,17 +19,17 @@ abbrev μ-loop : tie.MeasureT-loop
 
 loop-holds : tie.Need-loop-holds Inv-loop μ-loop
 unfolding some wrongLine
-loop-holds c = (search needs, search needs, ap (ltb furthest) (c .line .ensures .0))
+loop-holds c = (search needs, search needs, ap (ltb furthest) (c .line-from .ensures .0))
 
 wrong-step-requires : tie.Need-wrong-step-requires Inv-loop μ-loop
-wrong-step-requires c κs = c .before .line2 .ensures .1
+wrong-step-requires c κs = c .before .line-from2 .ensures .1
 
 loop-again : tie.Need-loop-again Inv-loop μ-loop
 loop-again c =
     let l = c .before .before .before in
     let h = l .before .loop .inv in
     let a = l .before .before .before .before .args in
-    (search needs, search needs, next-line (lineFrom (now (a .sheet)) (a .start)) _ (h .0) _ _ _ _ (h .2) (c .before .before .line2 .ensures .0) (c .before .line3 .ensures .0) (c .wrong-step .ensures))
+    (search needs, search needs, next-line (lineFrom (now (a .sheet)) (a .start)) _ (h .0) _ _ _ _ (h .2) (c .before .before .line-from2 .ensures .0) (c .before .line-from3 .ensures .0) (c .wrong-step .ensures))
 
 returns : tie.Need-returns Inv-loop μ-loop
 returns c = gathered-all _ _ _ _ (c .before .loop .inv .1) (c .loop-test .left) (c .before .loop .inv .2)

@@ -7,7 +7,7 @@ use Rattle.sheet_checking.proofs.wrong_nodes.Tie as tie
 
 returns : tie.Need-returns
 returns c =
-    c .wrong-numbers .ensures ∙ rw (c .before .before .nodes-offset .ensures .0, c .before .node-count .ensures .0) (wrong-nodes _)
+    c .wrong-words .ensures ∙ rw (c .before .before .nodes-offset .ensures .0, c .before .node-count .ensures .0) (wrong-nodes _)
 
 pub wrong-nodes-spec : {M : Type 1} → statement M
 wrong-nodes-spec =

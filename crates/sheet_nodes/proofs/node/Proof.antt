@@ -6,7 +6,7 @@ use Rattle.sheet_nodes.proofs.node.Statement.{statement}
 use Rattle.sheet_nodes.proofs.node.Tie as tie
 
 returns : tie.Need-returns
-returns c = rw (looked-none _ _ _ (c .before .before .node-refusal .ensures) (c .before .if1 .taken)) (record { bytes = refl; block = refl; place = refl })
+returns c = rw (looked-none _ _ _ (c .before .before .node-refusal .ensures) (c .before .if1 .taken)) (record { bytes = refl; block = refl; address = refl })
 
 returns-2 : tie.Need-returns-2
 returns-2 c = rw (looked-found _ _ _ (c .before .before .node-refusal .ensures) (c .before .if1 .left)) (c .found .ensures)

@@ -24,7 +24,7 @@ abbrev μ-loop : tie.MeasureT-loop
 loop-holds : tie.Need-loop-holds Inv-loop μ-loop
 loop-holds c = (search needs, paste-zero (now (c .args .to)) 0 (now (c .args .from)), refl)
 
--- a store takes the copy of k places to that of one more
+-- a store takes the copy of k slots to that of one more
 loop-again : tie.Need-loop-again Inv-loop μ-loop
 loop-again c =
     let l = c .before .before in let s = l .before in let from = now (s .args .from) in let to = now (s .args .to) in let k = l .loop .k in

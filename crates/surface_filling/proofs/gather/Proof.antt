@@ -5,7 +5,7 @@ use borrow.Author.Needs.{needs}
 use lib.ListN.{length, take}
 use Rattle.sheet_calls.specs.WellFormed.{OnMesh}
 use Rattle.sheet_calls.proofs.Chains.{run-held}
-use Rattle.surface_filling.proofs.Gathered.{run-short, first-places}
+use Rattle.surface_filling.proofs.Gathered.{run-short, first-slots}
 use Rattle.surface_filling.proofs.gather.Statement.{statement}
 use Rattle.surface_filling.proofs.gather.Tie as tie
 
@@ -20,7 +20,7 @@ copy-requires c κs = let short = run-short _ _ _ _ (held (c .before .before .be
 
 returns : tie.Need-returns
 returns c = let k = c .before in let r = k .before .before .before .before in let s = r .before .before .before in
-    k .copy .ensures ∙ ap (take (length (now (s .args .levels)))) (r .run .ensures) ∙ first-places _ _ _ _ _
+    k .copy .ensures ∙ ap (take (length (now (s .args .levels)))) (r .run .ensures) ∙ first-slots _ _ _ _ _
 
 pub gather-spec : {M : Type 1} → statement M
 gather-spec = tie.close (tie.spec (λ c. search needs) run-requires (λ c. search needs) copy-requires (λ c. search needs) returns)

@@ -25,8 +25,8 @@ add-middle c = let i = c .before .loop .inv in record { fits = omega (arith, i .
 middle : (c : tie.In-loop Inv-loop μ-loop) → let low = c .before .loop .low in let high = c .before .loop .high in (low < (low + high) / 2) × ((low + high) / 2 < high)
 middle c = middle-between _ _ (c .loop-test .taken)
 
-line-requires : tie.Need-line-requires Inv-loop μ-loop
-line-requires c κs = omega (arith, middle c .1, c .before .loop .inv .line, c .before .before .before .pre .0 .there)
+line-from-requires : tie.Need-line-from-requires Inv-loop μ-loop
+line-from-requires c κs = omega (arith, middle c .1, c .before .loop .inv .line, c .before .before .before .pre .0 .there)
 
 loop-less : tie.Need-loop-less Inv-loop μ-loop
 loop-less c = omega (arith, middle (c .before .before))
@@ -34,7 +34,7 @@ loop-less c = omega (arith, middle (c .before .before))
 loop-again : tie.Need-loop-again Inv-loop μ-loop
 loop-again c =
     let l = c .before .before .before in let s = l .before .before in
-    moves-low _ _ _ _ (s .pre .0) (s .pre .1) _ _ _ (l .loop .inv) (middle (c .before .before) .1) (rw (← (c .before .line .ensures .0)) (c .if1 .taken))
+    moves-low _ _ _ _ (s .pre .0) (s .pre .1) _ _ _ (l .loop .inv) (middle (c .before .before) .1) (rw (← (c .before .line-from .ensures .0)) (c .if1 .taken))
 
 loop-less-2 : tie.Need-loop-less-2 Inv-loop μ-loop
 loop-less-2 c = omega (arith, middle (c .before .before))
@@ -42,7 +42,7 @@ loop-less-2 c = omega (arith, middle (c .before .before))
 loop-again-2 : tie.Need-loop-again-2 Inv-loop μ-loop
 loop-again-2 c =
     let l = c .before .before .before in let s = l .before .before in
-    moves-high _ _ _ _ (s .pre .0) (s .pre .1) _ _ _ (l .loop .inv) (middle (c .before .before) .1) (rw (← (c .before .line .ensures .0)) (c .if1 .left))
+    moves-high _ _ _ _ (s .pre .0) (s .pre .1) _ _ _ (l .loop .inv) (middle (c .before .before) .1) (rw (← (c .before .line-from .ensures .0)) (c .if1 .left))
 
 returns : tie.Need-returns Inv-loop μ-loop
 returns c = found _ _ _ _ _ _ (c .before .loop .inv) (c .loop-test .left)
@@ -57,7 +57,7 @@ cell-along-spec =
     loop-holds
     add-loop
     add-middle
-    line-requires
+    line-from-requires
     loop-less
     loop-again
     loop-less-2

@@ -17,21 +17,21 @@ below c = let s = c .before .before in rw (c .cell-along .ensures) (cell-below _
 
 sub-t9 : tie.Need-sub-t9
 sub-t9 c =
-    let s = c .before .before .before .before in rw (c .before .line .ensures .0, c .before .before .cell-along .ensures) (cell-starts _ _ _ _ (s .pre .0) (s .pre .1))
+    let s = c .before .before .before .before in rw (c .before .line-from .ensures .0, c .before .before .cell-along .ensures) (cell-starts _ _ _ _ (s .pre .0) (s .pre .1))
 
 -- what is read last is that line
-after : (c : tie.After-line2) → let a = c .before .before .before .before .args in c .line2 .result ≡ lineFrom (now (a .sheet)) (a .start) (suc (c .before .before .cell-along .result))
+after : (c : tie.After-line-from2) → let a = c .before .before .before .before .args in c .line-from2 .result ≡ lineFrom (now (a .sheet)) (a .start) (suc (c .before .before .cell-along .result))
 after c =
     let a = c .before .before .before .before .args in
-    c .line2 .ensures .0 ∙ ap (lineFrom (now (a .sheet)) (a .start)) (add-one (c .before .before .cell-along .result))
+    c .line-from2 .ensures .0 ∙ ap (lineFrom (now (a .sheet)) (a .start)) (add-one (c .before .before .cell-along .result))
 
 sub-t10 : tie.Need-sub-t10
 sub-t10 c =
-    let s = c .before .before .before .before in rw (c .before .line .ensures .0, after c) (le-of-lt (s .pre .0 .rising .rises _ (below (c .before .before))))
+    let s = c .before .before .before .before in rw (c .before .line-from .ensures .0, after c) (le-of-lt (s .pre .0 .rising .rises _ (below (c .before .before))))
 
 returns : tie.Need-returns
 unfolding onAxis
-returns c = rw (c .before .line .ensures .0, after c, c .before .before .cell-along .ensures) refl
+returns c = rw (c .before .line-from .ensures .0, after c, c .before .before .cell-along .ensures) refl
 
 pub on-axis-spec : {M : Type 1} → statement M
 on-axis-spec =

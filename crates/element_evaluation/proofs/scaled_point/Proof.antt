@@ -1,4 +1,4 @@
--- `element_evaluation::scaled` meets its contract. Assumes nothing.
+-- `element_evaluation::scaled_point` meets its contract. Assumes nothing.
 use mathlib.Core.Path.{_≡_, sym, _∙_}
 use mathlib.Core.List.{[], _∷_}
 use Prim.Native.Nat.{_*_}
@@ -9,8 +9,8 @@ use Rattle.integers.proofs.Operand.{Operand, returned, _⊠_, asks, gives}
 use Rattle.element_cell.specs.Cell.{cell, pixelCell}
 use Rattle.element_cell.proofs.Sides.{length-within, side-is}
 use Rattle.element_evaluation.specs.LowDegree.{scaledOf}
-use Rattle.element_evaluation.proofs.scaled.Statement.{statement}
-use Rattle.element_evaluation.proofs.scaled.Tie as tie
+use Rattle.element_evaluation.proofs.scaled_point.Statement.{statement}
+use Rattle.element_evaluation.proofs.scaled_point.Tie as tie
 
 abbrev w : tie.After-length2 → Operand
 w c = returned w64 (c .before .length .ensures) (length-within (c .before .before .pre .width .most)) tt
@@ -29,8 +29,8 @@ sides : (s : tie.Start) → let p = s .args .p in pos (p .width * p .height) ∷
 unfolding cell scaledOf
 sides s = let p = s .args .p in sym (λ i. let w = side-is (s .pre .width) i in let h = side-is (s .pre .height) i in pos (w * h) ∷ pos (p .a * h) ∷ pos (p .b * w) ∷ [])
 
-pub scaled-spec : {M : Type 1} → statement M
-scaled-spec =
+pub scaled-point-spec : {M : Type 1} → statement M
+scaled-point-spec =
     tie.close
     (tie.spec
     (λ c κs. c .pre .width .most)

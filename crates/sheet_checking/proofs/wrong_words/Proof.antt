@@ -1,4 +1,4 @@
--- `sheet_checking::wrong_numbers` meets its contract. Assumes nothing.
+-- `sheet_checking::wrong_words` meets its contract. Assumes nothing.
 use Prim.Native.Nat.{_+_, _*_, _-_, _≤_}
 use mathlib.Core.Path.{_≡_, refl, _∙_, ap}
 use mathlib.Core.Bool.{not}
@@ -7,8 +7,8 @@ use Rattle.sheet_words.specs.Word.{wordAt, signed}
 use Rattle.sheet_layout.specs.Format.{slopeIn}
 use Rattle.sheet_calls.specs.Refusals.{some}
 use Rattle.sheet_checking.proofs.Gathered.{gathered, gathered-all}
-use Rattle.sheet_checking.proofs.wrong_numbers.Statement.{statement}
-use Rattle.sheet_checking.proofs.wrong_numbers.Tie as tie
+use Rattle.sheet_checking.proofs.wrong_words.Statement.{statement}
+use Rattle.sheet_checking.proofs.wrong_words.Tie as tie
 
 abbrev Inv-loop : tie.InvT-loop
 Inv-loop sheet start count wrong₀ k₀ wrong k = (k ≤ count) × (wrong ≡ some (λ i. not (slopeIn (signed (wordAt sheet (start + 2 * i))))) k)
@@ -24,19 +24,19 @@ loop-holds c = (search needs, refl)
 word-requires : tie.Need-word-requires Inv-loop μ-loop
 word-requires c κs = search needs
 
-in-range-requires : tie.Need-in-range-requires Inv-loop μ-loop
-in-range-requires c κs = c .word .ensures .1
+word-in-range-requires : tie.Need-word-in-range-requires Inv-loop μ-loop
+word-in-range-requires c κs = c .word .ensures .1
 
 loop-again : tie.Need-loop-again Inv-loop μ-loop
 loop-again c =
     let d = c .before .before .before in
-    (search needs, gathered _ _ _ _ (d .loop .inv .1) (ap not (c .in-range .ensures ∙ ap (λ w. slopeIn (signed w)) (c .before .word .ensures .0))))
+    (search needs, gathered _ _ _ _ (d .loop .inv .1) (ap not (c .word-in-range .ensures ∙ ap (λ w. slopeIn (signed w)) (c .before .word .ensures .0))))
 
 returns : tie.Need-returns Inv-loop μ-loop
 returns c = gathered-all _ _ _ _ (c .before .loop .inv .0) (c .loop-test .left) (c .before .loop .inv .1)
 
-pub wrong-numbers-spec : {M : Type 1} → statement M
-wrong-numbers-spec =
+pub wrong-words-spec : {M : Type 1} → statement M
+wrong-words-spec =
     tie.close
     (tie.spec
     Inv-loop
@@ -45,7 +45,7 @@ wrong-numbers-spec =
     (λ c. search needs)
     (λ c. search needs)
     word-requires
-    in-range-requires
+    word-in-range-requires
     (λ c. search needs)
     (λ c. search needs)
     loop-again
