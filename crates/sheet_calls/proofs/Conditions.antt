@@ -13,7 +13,7 @@ use Rattle.sheet_layout.specs.Format.{headerSize, marked, version, supported, c
 use Rattle.sheet_calls.specs.Refusals.{otherMark, otherVersion, otherCounts, otherLength, wrongLines, wrongNodes, outside, offMesh, emptyRun, otherKind, noNode, wrongNumbers}
 use Rattle.sheet_calls.specs.WellFormed.{Rising, InRange, Inside, ConditionLaws}
 use Rattle.sheet_layout.proofs.Meaning.{ltb-fails, leb-fails, not-fails, or-fails, leb-holds, eqb-holds, and-holds}
-use Rattle.sheet_calls.proofs.Some.{some-fails}
+use Rattle.sheet_layout.proofs.Some.{some-fails}
 use Rattle.sheet_calls.proofs.Ranges.{lines-rise, node-in-range}
 
 -- ---- of a sheet

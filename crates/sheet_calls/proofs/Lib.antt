@@ -1,4 +1,3 @@
-pub mod Some
 pub mod Ranges
 pub mod Conditions
 pub mod Rules

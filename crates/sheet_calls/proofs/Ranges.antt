@@ -4,11 +4,12 @@ use mathlib.Core.Path.{_≡_}
 use mathlib.Core.Logic.{_↔_, Iff·trans}
 use mathlib.Core.Bool.{true, false}
 use Rattle.sheet_layout.specs.Format.{furthest, widest, Node, nodeIn}
-use Rattle.sheet_calls.specs.Refusals.{some, wrongStep, wrongLine}
+use Rattle.sheet_layout.specs.Some.{some}
+use Rattle.sheet_calls.specs.Refusals.{wrongStep, wrongLine}
 use Rattle.sheet_calls.specs.WellFormed.{Rising, InRange}
 use Rattle.sheet_layout.proofs.Meaning.{ltb-fails, leb-fails, or-fails}
-use Rattle.sheet_layout.proofs.Ranges.{node-in}
-use Rattle.sheet_calls.proofs.Some.{some-fails}
+use Rattle.sheet_layout.proofs.NodeRange.{node-in}
+use Rattle.sheet_layout.proofs.Some.{some-fails}
 
 -- ---- lines
 

@@ -6,13 +6,9 @@ use mathlib.Core.List.{List, [], _∷_, _++_, map}
 use mathlib.Core.Bool.{Bool, false, not, _&&_, _||_}
 use lib.ListN.{length}
 use lib.Dec.{ltb, leb, eqb}
+use Rattle.sheet_layout.specs.Some.{some}
 use Rattle.sheet_layout.specs.Format.{headerSize, marked, version, supported, columns, rows, countIn, reserved, lineX, lineY, furthest, widest, Node, nodeIn, nodeAt, sizeOf}
 use Rattle.sheet_calls.specs.Rules.{Rule, rule, firstRefusal}
-
--- p holds of some number below n
-unfoldable pub some : (ℕ → Bool) → ℕ → Bool
-some p zero = false
-some p (suc k) = some p k || p k
 
 -- ---- the conditions, by their numbers
 

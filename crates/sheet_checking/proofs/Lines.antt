@@ -3,8 +3,9 @@ use Prim.Native.Nat.{ℕ, zero, suc, _+_, _-_, _≤_}
 use mathlib.Core.Path.{_≡_, sym, _∙_, ap}
 use mathlib.Core.Bool.{Bool, _||_}
 use native.Mathlib.Omega.{arith}
-use Rattle.sheet_calls.specs.Refusals.{some, wrongStep, wrongLine}
-use Rattle.sheet_checking.proofs.Gathered.{gathered}
+use Rattle.sheet_layout.specs.Some.{some}
+use Rattle.sheet_calls.specs.Refusals.{wrongStep, wrongLine}
+use Rattle.sheet_layout.proofs.Gathered.{gathered}
 
 module _ (line : ℕ → ℕ) where
   stepped : (k : ℕ) → 1 ≤ k → wrongLine line k ≡ wrongStep (line (k - 1)) (line k)

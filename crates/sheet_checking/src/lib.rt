@@ -1,17 +1,18 @@
 // The checks that every call makes of its sheet: which of the conditions 1 to 6 is the first to hold.
 ghost use mathlib.Core.Path.{_≡_};
-ghost use mathlib.Core.Bool.{false, not};
+ghost use mathlib.Core.Bool.{false};
 ghost use Prim.Native.Nat.{_+_, _*_, _≤_, _<_};
 ghost use lib.ListN.{length};
-ghost use Rattle.sheet_words.specs.Word.{wordAt, signed};
-ghost use Rattle.sheet_layout.specs.Format.{headerSize, columns, rows, lineFrom, countIn, slopeIn, sizeOf};
-ghost use Rattle.sheet_calls.specs.Refusals.{some, otherMark, otherVersion, otherCounts, otherLength, wrongStep, wrongLine, wrongLines, wrongNodes, sheetRefusal, checkRefusal};
+ghost use Rattle.sheet_layout.specs.Format.{headerSize, columns, rows, lineFrom, countIn, sizeOf};
+ghost use Rattle.sheet_layout.specs.Some.{some};
+ghost use Rattle.sheet_calls.specs.Refusals.{otherMark, otherVersion, otherCounts, otherLength, wrongStep, wrongLine, wrongLines, wrongNodes, sheetRefusal, checkRefusal};
 use sheet_layout::HEADER_SIZE;
 use sheet_layout::NODE_SIZE;
 use sheet_layout::columns;
 use sheet_layout::line_from;
 use sheet_layout::node_count;
 use sheet_layout::nodes_offset;
+use sheet_layout::ranges::some_node_out;
 use sheet_layout::rows;
 use sheet_layout::y_lines_offset;
 use sheet_words::word;
@@ -126,27 +127,5 @@ fn wrong_nodes(sheet: &[u8]) -> bool
     requires { ⌜ length (now sheet) ≡ sizeOf (columns (now sheet)) (rows (now sheet)) ⌝ }
     ensures { λ r. ⌜ r ≡ wrongNodes (now (sheet .entry)) ⌝ }
 {
-    wrong_words(sheet, nodes_offset(sheet), 3 * node_count(sheet))
-}
-
-// Whether one of the `count` signed numbers from index `start` on is out of range. No early exit here either.
-fn wrong_words(sheet: &[u8], start: usize, count: usize) -> bool
-    requires { ⌜ start + 2 * count ≤ length (now sheet) ⌝ }
-    ensures { λ r. ⌜ r ≡ some (λ k. not (slopeIn (signed (wordAt (now (sheet .entry)) (start + 2 * k))))) count ⌝ }
-{
-    let mut wrong = false;
-    let mut k = 0;
-    while k < count {
-        wrong = wrong | !word_in_range(word(sheet, start + 2 * k));
-        k += 1;
-    }
-    wrong
-}
-
-// Of the 16 bits of a signed number: up to 4,095, or from 65,536 − 4,095 on. Heights and slopes have the same range.
-fn word_in_range(bits: u32) -> bool
-    requires { ⌜ bits < 65536 ⌝ }
-    ensures { λ r. ⌜ r ≡ slopeIn (signed bits) ⌝ }
-{
-    (bits <= 4095) | (61441 <= bits)
+    some_node_out(sheet)
 }

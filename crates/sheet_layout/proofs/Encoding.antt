@@ -14,7 +14,7 @@ use Rattle.sheet_words.proofs.Signs.{signed-bits, bits-signed, bits-small}
 use Rattle.sheet_words.proofs.Bytes.{word-bytes, bytes-word, bytes-of, bytes-append}
 use Rattle.sheet_layout.specs.Format.{Node, decoded, encoded, nodeIn, nodeSize}
 use Rattle.sheet_layout.specs.EncodingLaws.{EncodingLaws}
-use Rattle.sheet_layout.proofs.Ranges.{node-in}
+use Rattle.sheet_layout.proofs.NodeRange.{node-in}
 
 -- ---- a number and its two bytes
 

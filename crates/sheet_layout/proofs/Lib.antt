@@ -1,5 +1,8 @@
 pub mod Meaning
-pub mod Ranges
+pub mod Some
+pub mod Gathered
+pub mod NodeRange
+pub mod NodeWords
 pub mod Encoding
 pub mod Decoding
 pub mod Numbers

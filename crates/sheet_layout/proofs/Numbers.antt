@@ -14,7 +14,7 @@ use Rattle.integers.proofs.Bounds.{within-mono}
 use Rattle.sheet_words.specs.Word.{bitsOf, bytesOf, replaced}
 use Rattle.sheet_words.proofs.Replaced.{replaced-on}
 use Rattle.sheet_layout.specs.Format.{Node, node, nodeSize, encoded, nodeIn}
-use Rattle.sheet_layout.proofs.Ranges.{node-in}
+use Rattle.sheet_layout.proofs.NodeRange.{node-in}
 
 -- numbers in range have 16 bits
 pub fit : (h x y : ℤ) → nodeIn (node h x y) ≡ true → (h within 32767) × (x within 32767) × (y within 32767)

@@ -1,3 +1,4 @@
+pub mod Some
 pub mod Format
 pub mod EncodingLaws
 pub mod Examples

@@ -1,4 +1,5 @@
 // The bytes of a sheet: where its parts lie, what they hold, and a node's bytes read and written.
+pub mod ranges;
 pub mod theorems;
 
 ghost use mathlib.Core.Path.{_≡_};

@@ -2,7 +2,7 @@
 ghost use mathlib.Core.Path.{_≡_};
 ghost use Prim.Native.Nat.{_+_, _≤_};
 ghost use lib.ListN.{length};
-ghost use Rattle.sheet_layout.specs.Format.{headerSize, node, slopeIn, nodeSize, nodeOffset};
+ghost use Rattle.sheet_layout.specs.Format.{headerSize, node, nodeSize, nodeOffset};
 ghost use Rattle.sheet_calls.specs.Refusals.{noNode, wrongNumbers, lookupRefusal, settingRefusal};
 ghost use Rattle.sheet_calls.specs.Calls.{lookedUp, span, Part, withNode};
 use sheet_checking::sheet_refusal;
@@ -10,6 +10,7 @@ use sheet_layout::NODE_SIZE;
 use sheet_layout::columns;
 use sheet_layout::node_offset;
 use sheet_layout::put_node;
+use sheet_layout::ranges::node_in_range;
 use sheet_layout::rows;
 
 // The node's bytes, where they lie in the sheet; or, refused, none from its start.
@@ -88,12 +89,5 @@ fn offset(sheet: &[u8], column: u32, row: u32) -> usize
 fn wrong_numbers(height: i32, x_slope: i32, y_slope: i32) -> bool
     ensures { λ r. ⌜ r ≡ wrongNumbers (node height «x_slope» «y_slope») ⌝ }
 {
-    !(in_range(height) & in_range(x_slope) & in_range(y_slope))
-}
-
-// Heights and slopes have the same range.
-fn in_range(x: i32) -> bool
-    ensures { λ r. ⌜ r ≡ slopeIn x ⌝ }
-{
-    (-4095 <= x) & (x <= 4095)
+    !node_in_range(height, x_slope, y_slope)
 }

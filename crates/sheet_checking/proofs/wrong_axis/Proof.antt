@@ -5,8 +5,9 @@ use mathlib.Core.Path.{_≡_, refl, ap}
 use lib.Dec.{ltb}
 use borrow.Author.Needs.{needs}
 use Rattle.sheet_layout.specs.Format.{furthest, lineFrom}
-use Rattle.sheet_calls.specs.Refusals.{some, wrongLine}
-use Rattle.sheet_checking.proofs.Gathered.{gathered-all}
+use Rattle.sheet_layout.specs.Some.{some}
+use Rattle.sheet_calls.specs.Refusals.{wrongLine}
+use Rattle.sheet_layout.proofs.Gathered.{gathered-all}
 use Rattle.sheet_checking.proofs.Lines.{next-line}
 use Rattle.sheet_checking.proofs.wrong_axis.Statement.{statement}
 use Rattle.sheet_checking.proofs.wrong_axis.Tie as tie

@@ -1,14 +1,14 @@
--- `sheet_checking::wrong_words` meets its contract. Assumes nothing.
+-- `sheet_layout::ranges::some_word_out` meets its contract. Assumes nothing.
 use Prim.Native.Nat.{_+_, _*_, _-_, _≤_}
 use mathlib.Core.Path.{_≡_, refl, _∙_, ap}
 use mathlib.Core.Bool.{not}
 use borrow.Author.Needs.{needs}
 use Rattle.sheet_words.specs.Word.{wordAt, signed}
 use Rattle.sheet_layout.specs.Format.{slopeIn}
-use Rattle.sheet_calls.specs.Refusals.{some}
-use Rattle.sheet_checking.proofs.Gathered.{gathered, gathered-all}
-use Rattle.sheet_checking.proofs.wrong_words.Statement.{statement}
-use Rattle.sheet_checking.proofs.wrong_words.Tie as tie
+use Rattle.sheet_layout.specs.Some.{some}
+use Rattle.sheet_layout.proofs.Gathered.{gathered, gathered-all}
+use Rattle.sheet_layout.proofs.ranges.some_word_out.Statement.{statement}
+use Rattle.sheet_layout.proofs.ranges.some_word_out.Tie as tie
 
 abbrev Inv-loop : tie.InvT-loop
 Inv-loop sheet start count wrong₀ k₀ wrong k = (k ≤ count) × (wrong ≡ some (λ i. not (slopeIn (signed (wordAt sheet (start + 2 * i))))) k)
@@ -35,8 +35,8 @@ loop-again c =
 returns : tie.Need-returns Inv-loop μ-loop
 returns c = gathered-all _ _ _ _ (c .before .loop .inv .0) (c .loop-test .left) (c .before .loop .inv .1)
 
-pub wrong-words-spec : {M : Type 1} → statement M
-wrong-words-spec =
+pub some-word-out-spec : {M : Type 1} → statement M
+some-word-out-spec =
     tie.close
     (tie.spec
     Inv-loop

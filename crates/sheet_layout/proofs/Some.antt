@@ -6,7 +6,7 @@ use mathlib.Core.Bool.{Bool, false}
 use mathlib.Mathlib.Data.Bool.Basic.{or-eq-false-eq-eq-false-and-eq-false}
 use native.Mathlib.Nat.{le-of-suc-le-suc, le-step, lt-suc-self, eq-or-lt-of-le}
 use native.Mathlib.Omega.{arith}
-use Rattle.sheet_calls.specs.Refusals.{some}
+use Rattle.sheet_layout.specs.Some.{some}
 
 module _ (p : ℕ → Bool) where
   pub some-false-at : (n : ℕ) → some p n ≡ false → (k : ℕ) → k < n → p k ≡ false

@@ -4,7 +4,7 @@ use mathlib.Core.Path.{_≡_, refl, sym}
 use mathlib.Core.Bool.{Bool, _||_, or-false, or-assoc}
 use native.Mathlib.Nat.{le-antisymm, add-zero, add-suc, zero-mul, suc-mul}
 use native.Mathlib.Numerals.{add-one}
-use Rattle.sheet_calls.specs.Refusals.{some}
+use Rattle.sheet_layout.specs.Some.{some}
 
 -- ---- a loop's flag
 
