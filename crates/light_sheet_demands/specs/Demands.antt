@@ -120,7 +120,7 @@ pub record DemandOne : Type 0 where
       getD array′ k v ≡ getD array k v
   pub arrayRefused : {s : List ℕ} {x y kind n : ℕ} {array array′ : List Float} → ReadInto s x y kind array n array′ → ¬ (n ≡ 0) → array′ ≡ array
   -- "This holds for all input, with no reading past the lent part, no wrapped sum and no call that fails to end." No public call has a `requires`, and of
-  -- every function the gate shows that it reads and writes within bounds, that no operation loses a bit, and that it ends
+  -- every function the gate shows that it reads and writes within bounds, that no sum or product wraps and no cast loses a bit, and that it ends
 
   -- "Each refusal is given when its listed condition is the first in order to hold, and then only."
   pub check : {s : List ℕ} {n : ℕ} → Check s n → Gives ofCheck s n

@@ -8,10 +8,10 @@ ghost use Rattle.sheet_words.specs.Word.{replaced};
 ghost use Rattle.sheet_calls.specs.Refusals.{Accepted};
 ghost use Rattle.sheet_calls.specs.WellFormed.{Inside};
 ghost use Rattle.program_listing.specs.Listing.{lastX, lastY, OnRow, pixelLine, rowText, lineRoom, rowRoom};
-use sheet_layout::columns;
+use sheet_layout::header::columns;
+use sheet_layout::header::rows;
 use sheet_layout::line_x;
 use sheet_layout::line_y;
-use sheet_layout::rows;
 
 // How many bytes a row's text takes at most: 64 for each of 4,097 pixels.
 pub const ROW_ROOM: usize = 262208;

@@ -6,16 +6,17 @@ ghost use lib.ListN.{length};
 ghost use Rattle.sheet_layout.specs.Format.{headerSize, columns, rows, lineFrom, countIn, sizeOf};
 ghost use Rattle.sheet_layout.specs.Some.{some};
 ghost use Rattle.sheet_calls.specs.Refusals.{otherMark, otherVersion, otherCounts, otherLength, wrongStep, wrongLine, wrongLines, wrongNodes, sheetRefusal, checkRefusal};
-use sheet_layout::HEADER_SIZE;
-use sheet_layout::NODE_SIZE;
-use sheet_layout::columns;
+use sheet_layout::header::HEADER_SIZE;
+use sheet_layout::header::columns;
+use sheet_layout::header::marked;
+use sheet_layout::header::reserved;
+use sheet_layout::header::rows;
+use sheet_layout::header::supported;
+use sheet_layout::header::version;
 use sheet_layout::line_from;
-use sheet_layout::node_count;
-use sheet_layout::nodes_offset;
 use sheet_layout::ranges::some_node_out;
-use sheet_layout::rows;
+use sheet_layout::stated_size;
 use sheet_layout::y_lines_offset;
-use sheet_words::word;
 
 // The number of the first condition that holds, or 0 where the sheet is accepted.
 pub fn sheet_refusal(sheet: &[u8]) -> u32
@@ -63,24 +64,24 @@ fn other_mark(sheet: &[u8]) -> bool
     if sheet.len() < HEADER_SIZE {
         return true;
     }
-    !((sheet[0] == 0x4c) & (sheet[1] == 0x56) & (sheet[2] == 0x53))
+    !marked(sheet)
 }
 
 fn other_version(sheet: &[u8]) -> bool
     requires { ⌜ headerSize ≤ length (now sheet) ⌝ }
     ensures { λ r. ⌜ r ≡ otherVersion (now (sheet .entry)) ⌝ }
 {
-    word(sheet, 3) != 1
+    !supported(version(sheet))
 }
 
 fn other_counts(sheet: &[u8]) -> bool
     requires { ⌜ headerSize ≤ length (now sheet) ⌝ }
     ensures { λ r. ⌜ r ≡ otherCounts (now (sheet .entry)) ⌝ }
 {
-    !in_counts(sheet[5]) | !in_counts(sheet[6]) | (sheet[7] != 0)
+    !in_counts(columns(sheet)) | !in_counts(rows(sheet)) | (reserved(sheet) != 0)
 }
 
-fn in_counts(n: u8) -> bool
+fn in_counts(n: usize) -> bool
     ensures { λ r. ⌜ r ≡ countIn n ⌝ }
 {
     (2 <= n) & (n <= 65)
@@ -90,7 +91,7 @@ fn other_length(sheet: &[u8]) -> bool
     requires { ⌜ headerSize ≤ length (now sheet) ⌝ }
     ensures { λ r. ⌜ r ≡ otherLength (now (sheet .entry)) ⌝ }
 {
-    sheet.len() != nodes_offset(sheet) + NODE_SIZE * node_count(sheet)
+    sheet.len() != stated_size(sheet)
 }
 
 fn wrong_lines(sheet: &[u8]) -> bool

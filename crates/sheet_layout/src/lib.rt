@@ -1,4 +1,5 @@
 // The bytes of a sheet: where its parts lie, what they hold, and a node's bytes read and written.
+pub mod header;
 pub mod ranges;
 pub mod theorems;
 
@@ -9,32 +10,16 @@ ghost use Prim.Native.Nat.{_+_, _*_, _≤_, _<_};
 ghost use lib.ListN.{length};
 ghost use Rattle.sheet_words.specs.Word.{replaced};
 ghost use Rattle.sheet_layout.specs.Format.{headerSize, columns, rows, yLinesOffset, lineFrom, lineX, lineY, node, encoded, nodeIn, nodeSize, nodesOffset, nodeOffset, sizeOf, heightAt, slopeXAt, slopeYAt};
+use header::HEADER_SIZE;
+use header::columns;
+use header::rows;
 use sheet_words::bits_of;
 use sheet_words::put_word;
 use sheet_words::signed_word;
-use sheet_words::wide;
 use sheet_words::word;
-
-// How many bytes the header has; the vertical lines' positions start behind it.
-pub const HEADER_SIZE: usize = 8;
 
 // How many bytes a node has.
 pub const NODE_SIZE: usize = 6;
-
-// How many vertical lines there are, and how many horizontal ones.
-pub fn columns(sheet: &[u8]) -> usize
-    requires { ⌜ headerSize ≤ length (now sheet) ⌝ }
-    ensures { λ r. ⌜ (r ≡ columns (now (sheet .entry))) × (r < 256) ⌝ }
-{
-    wide(sheet[5]) as usize
-}
-
-pub fn rows(sheet: &[u8]) -> usize
-    requires { ⌜ headerSize ≤ length (now sheet) ⌝ }
-    ensures { λ r. ⌜ (r ≡ rows (now (sheet .entry))) × (r < 256) ⌝ }
-{
-    wide(sheet[6]) as usize
-}
 
 // Where the horizontal lines' positions start.
 pub fn y_lines_offset(sheet: &[u8]) -> usize
@@ -82,6 +67,14 @@ pub fn node_count(sheet: &[u8]) -> usize
     ensures { λ r. ⌜ (r ≡ columns (now (sheet .entry)) * rows (now (sheet .entry))) × (r ≤ 65536) ⌝ }
 {
     columns(sheet) * rows(sheet)
+}
+
+// How many bytes a sheet with these counts of lines has.
+pub fn stated_size(sheet: &[u8]) -> usize
+    requires { ⌜ headerSize ≤ length (now sheet) ⌝ }
+    ensures { λ r. ⌜ r ≡ sizeOf (columns (now (sheet .entry))) (rows (now (sheet .entry))) ⌝ }
+{
+    nodes_offset(sheet) + NODE_SIZE * node_count(sheet)
 }
 
 // Where a node's bytes start.

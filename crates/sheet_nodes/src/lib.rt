@@ -7,11 +7,11 @@ ghost use Rattle.sheet_calls.specs.Refusals.{noNode, wrongNumbers, lookupRefusa
 ghost use Rattle.sheet_calls.specs.Calls.{lookedUp, span, Part, withNode};
 use sheet_checking::sheet_refusal;
 use sheet_layout::NODE_SIZE;
-use sheet_layout::columns;
+use sheet_layout::header::columns;
+use sheet_layout::header::rows;
 use sheet_layout::node_offset;
 use sheet_layout::put_node;
 use sheet_layout::ranges::node_in_range;
-use sheet_layout::rows;
 
 // The node's bytes, where they lie in the sheet; or, refused, none from its start.
 pub fn node(sheet: &[u8], column: u32, row: u32) -> &[u8]

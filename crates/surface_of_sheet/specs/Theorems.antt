@@ -1,4 +1,5 @@
--- What holds of the surface and the readings of every accepted sheet: the sentences of demand 3 that speak of sheets, and what 01 says of levels. Assumes nothing.
+-- What holds of every accepted sheet: of its surface and readings, the sentences of demand 3 that speak of sheets; of what `read` returns and a run leaves; of
+-- readings at nodes; and what 01 says of levels. Assumes nothing.
 use Prim.Native.Nat.{ℕ, suc, _+_, _^_, _≤_, _<_}
 use mathlib.Core.Path.{_≡_}
 use mathlib.Core.List.{List, [], _∷_}

@@ -9,10 +9,10 @@ ghost use Rattle.surface_places.specs.Found.{Axis, Between, offAxis, onA
 use element_cell::Piece;
 use element_cell::Pixel;
 use element_cell::piece_at;
-use sheet_layout::HEADER_SIZE;
-use sheet_layout::columns;
+use sheet_layout::header::HEADER_SIZE;
+use sheet_layout::header::columns;
+use sheet_layout::header::rows;
 use sheet_layout::line_from;
-use sheet_layout::rows;
 use sheet_layout::y_lines_offset;
 
 // The cell of a pixel by its column and row, the pixel in that cell, and the piece that it is read from.

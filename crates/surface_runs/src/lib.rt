@@ -11,7 +11,7 @@ ghost use Rattle.surface_runs.specs.Strips.{stripLevel, doneIn, AtColumn
 use element_cell::Pixel;
 use element_spans::fill_cell;
 use integers::least;
-use sheet_layout::columns;
+use sheet_layout::header::columns;
 use sheet_layout::line_x;
 use surface_cells::corner_numbers;
 use surface_places::find;

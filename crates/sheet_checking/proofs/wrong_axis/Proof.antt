@@ -1,7 +1,7 @@
 -- `sheet_checking::wrong_axis` meets its contract. Assumes nothing.
 use denote.Ref.{now}
 use Prim.Native.Nat.{_-_, _≤_}
-use mathlib.Core.Path.{_≡_, refl, ap}
+use mathlib.Core.Path.{_≡_, ap}
 use lib.Dec.{ltb}
 use borrow.Author.Needs.{needs}
 use Rattle.sheet_layout.specs.Format.{furthest, lineFrom}

@@ -1,7 +1,6 @@
 -- `surface_places::cell_along` meets its contract. Assumes nothing.
 use Prim.Native.Nat.{_+_, _-_, _/_, _<_}
 use native.Mathlib.Omega.{arith}
-use borrow.Author.Needs.{needs}
 use Rattle.surface_places.proofs.Search.{middle-between, Searched, starts, moves-low, moves-high, found}
 use Rattle.surface_places.proofs.cell_along.Statement.{statement}
 use Rattle.surface_places.proofs.cell_along.Tie as tie

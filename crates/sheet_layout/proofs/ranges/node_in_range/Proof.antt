@@ -1,5 +1,5 @@
 -- `sheet_layout::ranges::node_in_range` meets its contract. Assumes nothing.
-use mathlib.Core.Path.{_∙_, ap, refl}
+use mathlib.Core.Path.{ap}
 use borrow.Author.Needs.{needs}
 use Rattle.sheet_layout.specs.Format.{heightIn, slopeIn, nodeIn}
 use Rattle.sheet_layout.proofs.Numbers.{back}
