@@ -8,7 +8,7 @@ use lib.ListN.{length}
 use Rattle.integers.specs.Within.{_within_}
 use Rattle.sheet_words.specs.Word.{byteAt}
 use Rattle.sheet_layout.specs.Format.{version, columns, rows, lineX, lineY, Node, nodeAt}
-use Rattle.sheet_calls.specs.Refusals.{otherMark, otherVersion, otherCounts, otherLength, wrongLines, wrongNodes, outside, offMesh, emptyRun, otherKind, noNode, wrongNumbers, Accepted}
+use Rattle.sheet_calls.specs.Refusals.{otherMark, otherVersion, otherCounts, otherLength, wrongLines, wrongNodes, outside, offMesh, emptyRun, otherKind, noNode, wrongNumbers, Accepted, sheetRefusal, checkRefusal}
 
 -- the positions of an axis's n lines: none exceeds 4,096, each rises above the one before, by at most 64
 pub record Rising (line : ℕ → ℕ) (n : ℕ) : Type 0 where
@@ -67,8 +67,10 @@ pub record WellFormed (s : List ℕ) : Type 0 where
   pub risingY : Rising (lineY s) (rows s)
   pub ranges : (i j : ℕ) → i < columns s → j < rows s → InRange (nodeAt s i j)
 
--- the accepted sheets are those; none has more than 25,618 bytes
+-- the accepted sheets are those, and those that no call refuses by 1 to 6; none has more than 25,618 bytes
 pub record AcceptedLaws : Type 0 where
+  pub unrefused : (s : List ℕ) → (sheetRefusal s ≡ 0) ↔ Accepted s
+  pub checked : (s : List ℕ) → (checkRefusal s ≡ 0) ↔ Accepted s
   pub sound : (s : List ℕ) → Accepted s → WellFormed s
   pub complete : (s : List ℕ) → WellFormed s → Accepted s
   pub longest : (s : List ℕ) → Accepted s → length s ≤ 25618
