@@ -10,7 +10,7 @@ use Rattle.sheet_calls.specs.Rules.{Rule, firstRefusal}
 use Rattle.sheet_calls.specs.Refusals.{sheetRules, checkRules, checkRefusal, lookupRules, lookupRefusal, settingRules, settingRefusal, readingRules, readingRefusal, runRules, runRefusal}
 use Rattle.sheet_calls.specs.Calls.{Part}
 use Rattle.sheet_calls.proofs.Conditions.{condition-laws}
-use Rattle.sheet_calls.proofs.Rules.{rule-laws, positive, numbered}
+use Rattle.sheet_calls.proofs.Rules.{rule-laws, nonzero, numbered}
 use Rattle.sheet_calls.proofs.Lookup.{lookup-laws}
 use Rattle.sheet_calls.proofs.Setting.{setting-laws}
 use Rattle.surface_of_sheet.proofs.Runs.{run-laws}
@@ -19,14 +19,14 @@ use Rattle.light_sheet_demands.specs.Demands.{Gives, DemandOne}
 use Rattle.light_sheet_demands.proofs.Readings.{number-is, no-values, few-values, none-stored}
 
 -- what rules give, whatever they are, where none has the number 0
-gives : {Input : Type 0} (rules : List (Rule Input)) (u : Input) → T (positive rules) → {n : ℕ} → n ≡ firstRefusal rules u → Gives rules u n
+gives : {Input : Type 0} (rules : List (Rule Input)) (u : Input) → T (nonzero rules) → {n : ℕ} → n ≡ firstRefusal rules u → Gives rules u n
 gives rules u h e = rw e (record {
   refused = λ k z. (rule-laws .thenOnly rules u k z, rule-laws .given rules u k);
   taken = (rule-laws .zeroOnly rules u (numbered rules h), rule-laws .zero rules u);
 })
 
 pub demand-one : DemandOne
-unfolding positive sheetRules checkRules checkRefusal lookupRules lookupRefusal settingRules settingRefusal readingRules readingRefusal runRules runRefusal
+unfolding nonzero sheetRules checkRules checkRefusal lookupRules lookupRefusal settingRules settingRefusal readingRules readingRefusal runRules runRefusal
 demand-one = record {
   sheetSize = λ c. rw (c .sheet) (setting-laws .leaves _ _ _ _ .size);
   beforeNode = λ c. rw (c .sheet) (setting-laws .leaves _ _ _ _ .before);

@@ -22,7 +22,7 @@ use Rattle.sheet_layout.specs.Format.{lineX, lineY, Node, decoded, nodeSize, no
 use Rattle.sheet_calls.specs.Rules.{Rule, rule, Each, Fails, FirstToHold}
 use Rattle.sheet_calls.specs.Refusals.{otherMark, otherVersion, otherCounts, otherLength, wrongLines, wrongNodes, outside, offMesh, emptyRun, otherKind, noNode, wrongNumbers, Accepted, checkRefusal, LookupInput, lookupRefusal, SettingInput, settingRefusal, ReadingInput, RunInput, runRefusal}
 use Rattle.sheet_calls.specs.WellFormed.{Inside, ConditionLaws}
-use Rattle.sheet_calls.specs.Calls.{Part, span, lookedUp, withNode}
+use Rattle.sheet_calls.specs.Calls.{Part, stretch, lookedUp, withNode}
 use Rattle.sheet_calls.specs.NodeLaws.{ReadsBack}
 use Rattle.surface_answers.specs.Answers.{outcome, quotient}
 use Rattle.surface_answers.specs.declared.Answer.{Answer}
@@ -133,8 +133,8 @@ pub record DemandOne : Type 0 where
   pub run : {s : List ℕ} {x y n : ℕ} {row row′ : List ℤ} → FillRun s x y row n row′ →
       Gives ofRun (record { sheet = s; x = x; y = y; count = length row }) n
   -- a lookup that its companion says is refused hands back an empty part from the sheet's start; else the node's six bytes, where they lie
-  pub emptyPart : {s r : RefT (List ℕ)} {i j n : ℕ} → NodeCall s i j r → NodeRefusal (now s) i j n → ¬ (n ≡ 0) → Part s r (span 0 0)
-  pub nodePart : {s r : RefT (List ℕ)} {i j n : ℕ} → NodeCall s i j r → NodeRefusal (now s) i j n → n ≡ 0 → Part s r (span (nodeOffset (now s) i j) nodeSize)
+  pub emptyPart : {s r : RefT (List ℕ)} {i j n : ℕ} → NodeCall s i j r → NodeRefusal (now s) i j n → ¬ (n ≡ 0) → Part s r (stretch 0 0)
+  pub nodePart : {s r : RefT (List ℕ)} {i j n : ℕ} → NodeCall s i j r → NodeRefusal (now s) i j n → n ≡ 0 → Part s r (stretch (nodeOffset (now s) i j) nodeSize)
   -- in C the part is known by where it starts: 0 exactly where the lookup is refused, for no node starts there
   pub offset : {s : List ℕ} {i j k n : ℕ} → NodeOffset s i j k → NodeRefusal s i j n → n ≡ 0 → k ≡ nodeOffset s i j
   pub noOffset : {s : List ℕ} {i j k n : ℕ} → NodeOffset s i j k → NodeRefusal s i j n → (k ≡ 0) ↔ ¬ (n ≡ 0)

@@ -7,7 +7,7 @@ use Rattle.element_sibson.specs.Element as element
 use Rattle.element_cell.specs.Cell.{side, cell}
 use Rattle.element_readings.specs.Reading.{levelOf, tiltXOf, tiltYOf, rounded}
 use Rattle.sheet_words.specs.Word.{signed}
-use Rattle.sheet_layout.specs.Format.{marked, supported, countIn, decoded, heightIn, slopeIn, nodeIn, nodeAt, heightAt, slopeXAt, slopeYAt}
+use Rattle.sheet_layout.specs.Format.{marked, supported, countIn, decoded, heightIn, slopeIn, nodeIn, nodeAt, heightAt, slopeXAt, slopeYAt, someNodeOut}
 use Rattle.sheet_calls.specs.Rules.{firstRefusal}
 use Rattle.sheet_layout.specs.Some.{some}
 use Rattle.sheet_calls.specs.Refusals as refusals
@@ -18,5 +18,5 @@ use Rattle.program_listing.specs.Listing.{sequence, pixelLine, rowText, 
 use Rattle.program_listing.specs.Examples.{Examples}
 
 pub examples : Examples
-unfolding floorDiv round value byR byS jet element.cornerNumbers element.inOrder element.weights element.weighed element.halved element.transposed element.flipped element.mirrored element.swap element.negateX element.negateY element.exchanged element.topDown element.leftRight element.onTop element.onLeft element.sibson element.element rounded levelOf tiltXOf tiltYOf side cell signed marked supported countIn decoded heightIn slopeIn nodeIn nodeAt heightAt slopeXAt slopeYAt some refusals.otherMark refusals.otherVersion refusals.otherCounts refusals.otherLength refusals.wrongStep refusals.wrongLine refusals.wrongLines refusals.wrongNodes firstRefusal refusals.sheetRules refusals.sheetRefusal cellOf cellAlong columnAt rowAt place nodeNumbers nodesOf setOf levelAt tiltXAt tiltYAt level tiltX tiltY spelled natural decimal field line refusedLine sequence pixelLine rowText printed
+unfolding floorDiv round value byR byS jet element.cornerNumbers element.inOrder element.weights element.weighed element.halved element.transposed element.flipped element.mirrored element.swap element.negateX element.negateY element.exchanged element.topDown element.leftRight element.onTop element.onLeft element.sibson element.element rounded levelOf tiltXOf tiltYOf side cell signed marked supported countIn decoded heightIn slopeIn nodeIn nodeAt heightAt slopeXAt slopeYAt some refusals.otherMark refusals.otherVersion refusals.otherCounts refusals.otherLength refusals.wrongStep refusals.wrongLine refusals.wrongLines someNodeOut refusals.wrongNodes firstRefusal refusals.sheetRules refusals.sheetRefusal cellOf cellAlong columnAt rowAt place nodeNumbers nodesOf setOf levelAt tiltXAt tiltYAt level tiltX tiltY spelled natural decimal field line refusedLine sequence pixelLine rowText printed
 examples = record { three = refl; sheet = refl; version = refl; nothing = refl }

@@ -12,7 +12,7 @@ use Rattle.sheet_layout.specs.Format.{columns, rows, Node, nodeIn}
 use Rattle.sheet_calls.specs.Rules.{Rule, rule, firstRefusal}
 use Rattle.sheet_calls.specs.Refusals.{otherMark, otherVersion, otherCounts, otherLength, wrongLines, wrongNodes, outside, offMesh, emptyRun, otherKind, noNode, wrongNumbers, Accepted, sheetRules, sheetRefusal, checkRules, checkRefusal, lookupRules, lookupRefusal, settingRules, settingRefusal, readingRules, readingRefusal, runRules, runRefusal, CallNumbers}
 use Rattle.sheet_calls.specs.WellFormed.{Inside, OnMesh}
-use Rattle.sheet_calls.proofs.Rules.{rule-laws, positive, numbered, orElse, first-append, zero-or, or-zero}
+use Rattle.sheet_calls.proofs.Rules.{rule-laws, nonzero, numbered, orElse, first-append, zero-or, or-zero}
 use Rattle.sheet_calls.proofs.Conditions.{condition-laws}
 
 -- ---- a sheet
@@ -24,7 +24,7 @@ sheet-is s = refl
 
 -- it is accepted exactly where the number is 0
 pub accepted-is : (s : List ℕ) → (sheetRefusal s ≡ 0) ↔ Accepted s
-unfolding sheetRefusal sheetRules positive
+unfolding sheetRefusal sheetRules nonzero
 accepted-is s = (
   λ e. let (a, (b, (c, (d, (f, (g, _)))))) = rule-laws .zeroOnly (sheetRules (λ t. t)) s (numbered (sheetRules (λ t. t)) tt) e in
       record { one = a; two = b; three = c; four = d; five = f; six = g },
@@ -47,7 +47,7 @@ check-is s = refl
 -- rules behind those of the sheet
 pub sheet-append : {Input : Type 0} (sheet : Input → List ℕ) (more : List (Rule Input)) (u : Input)
     → firstRefusal (sheetRules sheet ++ more) u ≡ orElse (sheetRefusal (sheet u)) (firstRefusal more u)
-unfolding sheetRefusal sheetRules firstRefusal positive
+unfolding sheetRefusal sheetRules firstRefusal nonzero
 sheet-append sheet more u = first-append (sheetRules sheet) more u (numbered (sheetRules sheet) tt)
 
 pub lookup-is : (s : List ℕ) (i j : ℕ) → lookupRefusal s i j ≡ orElse (sheetRefusal s) (cond (noNode s i j) 10 0)

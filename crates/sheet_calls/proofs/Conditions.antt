@@ -9,7 +9,7 @@ use lib.ListN.{length}
 use lib.Dec.{eqb}
 use borrow.Author.Tests.{ne-eqb, eqb-false}
 use Rattle.sheet_words.specs.Word.{byteAt}
-use Rattle.sheet_layout.specs.Format.{headerSize, marked, version, supported, columns, rows, countIn, reserved, lineX, lineY, nodeAt, sizeOf}
+use Rattle.sheet_layout.specs.Format.{headerSize, marked, version, supported, columns, rows, countIn, reserved, lineX, lineY, nodeAt, statedSize, someNodeOut}
 use Rattle.sheet_calls.specs.Refusals.{otherMark, otherVersion, otherCounts, otherLength, wrongLines, wrongNodes, outside, offMesh, emptyRun, otherKind, noNode, wrongNumbers}
 use Rattle.sheet_calls.specs.WellFormed.{Rising, InRange, Inside, ConditionLaws}
 use Rattle.sheet_layout.proofs.Meaning.{ltb-fails, leb-fails, not-fails, or-fails, leb-holds, eqb-holds, and-holds}
@@ -43,16 +43,16 @@ module _ (s : List ℕ) where
   unfolding otherCounts
   counts-right = or-fails (or-fails (not-fails (count-in (columns s))) (not-fails (count-in (rows s)))) (not-fails (eqb-holds (reserved s) 0))
 
-  length-right : (otherLength s ≡ false) ↔ (length s ≡ sizeOf (columns s) (rows s))
+  length-right : (otherLength s ≡ false) ↔ (length s ≡ statedSize s)
   unfolding otherLength
-  length-right = not-fails (eqb-holds (length s) (sizeOf (columns s) (rows s)))
+  length-right = not-fails (eqb-holds (length s) (statedSize s))
 
   lines-right : (wrongLines s ≡ false) ↔ (Rising (lineX s) (columns s) × Rising (lineY s) (rows s))
   unfolding wrongLines
   lines-right = or-fails (lines-rise (lineX s) (columns s)) (lines-rise (lineY s) (rows s))
 
   nodes-right : (wrongNodes s ≡ false) ↔ ((j : ℕ) → j < rows s → (i : ℕ) → i < columns s → InRange (nodeAt s i j))
-  unfolding wrongNodes
+  unfolding wrongNodes someNodeOut
   nodes-right = some-fails (rows s) (λ j. some-fails (columns s) (λ i. not-fails (node-in-range (nodeAt s i j))))
 
 -- ---- of a call's other input

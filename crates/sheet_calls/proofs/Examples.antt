@@ -2,7 +2,7 @@
 use mathlib.Core.Path.{_≡_, refl}
 use mathlib.Core.List.{map}
 use Rattle.sheet_words.specs.Word.{signed, bitsOf, bytesOf}
-use Rattle.sheet_layout.specs.Format.{marked, supported, countIn, decoded, encoded, heightIn, slopeIn, nodeIn, nodeAt, heightAt}
+use Rattle.sheet_layout.specs.Format.{marked, supported, countIn, decoded, encoded, heightIn, slopeIn, nodeIn, nodeAt, heightAt, someNodeOut}
 use Rattle.sheet_layout.specs.Some.{some}
 use Rattle.sheet_calls.specs.Refusals.{otherMark, otherVersion, otherCounts, otherLength, wrongStep, wrongLine, wrongLines, wrongNodes, outside, offMesh, emptyRun, otherKind, noNode, wrongNumbers, sheetRules, checkRules, checkRefusal, lookupRules, lookupRefusal, settingRules, settingRefusal, readingRules, readingRefusal, runRules, runRefusal}
 use Rattle.sheet_calls.specs.Rules.{firstRefusal}
@@ -10,11 +10,11 @@ use Rattle.sheet_calls.specs.Calls.{lookedUp, withNode}
 use Rattle.sheet_calls.specs.Examples.{checked, Examples}
 
 checks : map (λ e. checkRefusal (e .sheet)) checked ≡ map (λ e. e .gives) checked
-unfolding signed marked supported countIn decoded heightIn slopeIn nodeIn nodeAt some otherMark otherVersion otherCounts otherLength wrongStep wrongLine wrongLines wrongNodes firstRefusal sheetRules checkRules checkRefusal
+unfolding signed marked supported countIn decoded heightIn slopeIn nodeIn nodeAt some otherMark otherVersion otherCounts otherLength wrongStep wrongLine wrongLines someNodeOut wrongNodes firstRefusal sheetRules checkRules checkRefusal
 checks = refl
 
 pub examples : Examples
-unfolding signed bitsOf bytesOf marked supported countIn decoded encoded heightIn slopeIn nodeIn nodeAt heightAt some otherMark otherVersion otherCounts otherLength wrongStep wrongLine wrongLines wrongNodes outside offMesh emptyRun otherKind noNode wrongNumbers firstRefusal sheetRules lookupRules lookupRefusal settingRules settingRefusal readingRules readingRefusal runRules runRefusal lookedUp withNode
+unfolding signed bitsOf bytesOf marked supported countIn decoded encoded heightIn slopeIn nodeIn nodeAt heightAt some otherMark otherVersion otherCounts otherLength wrongStep wrongLine wrongLines someNodeOut wrongNodes outside offMesh emptyRun otherKind noNode wrongNumbers firstRefusal sheetRules lookupRules lookupRefusal settingRules settingRefusal readingRules readingRefusal runRules runRefusal lookedUp withNode
 examples = record {
   checks = checks;
   lower = refl;

@@ -9,16 +9,16 @@ use borrow.Author.Tests.{eq-eqb, ne-eqb}
 use Rattle.sheet_layout.specs.Format.{decoded, nodeSize, nodeOffset, nodeAt}
 use Rattle.sheet_layout.proofs.Offsets.{node-fits}
 use Rattle.sheet_calls.specs.Refusals.{lookupRefusal}
-use Rattle.sheet_calls.specs.Calls.{span, lookedUp, bytesIn}
+use Rattle.sheet_calls.specs.Calls.{stretch, lookedUp, bytesIn}
 use Rattle.sheet_calls.specs.NodeLaws.{LookupLaws}
 use Rattle.sheet_calls.proofs.Chains.{HasNode, lookup-held}
 use Rattle.sheet_calls.proofs.WellFormed.{nodes-there}
 
-found : (s : List ℕ) (i j : ℕ) → lookupRefusal s i j ≡ 0 → lookedUp s i j ≡ span (nodeOffset s i j) nodeSize
+found : (s : List ℕ) (i j : ℕ) → lookupRefusal s i j ≡ 0 → lookedUp s i j ≡ stretch (nodeOffset s i j) nodeSize
 unfolding lookedUp
 found s i j e = rw (eq-eqb _ _ e) refl
 
-refused : (s : List ℕ) (i j : ℕ) → ¬ (lookupRefusal s i j ≡ 0) → lookedUp s i j ≡ span 0 0
+refused : (s : List ℕ) (i j : ℕ) → ¬ (lookupRefusal s i j ≡ 0) → lookedUp s i j ≡ stretch 0 0
 unfolding lookedUp
 refused s i j h = rw (ne-eqb _ _ h) refl
 

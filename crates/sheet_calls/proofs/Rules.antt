@@ -65,14 +65,14 @@ module _ {Input : Type 0} where
   rule-laws = record { given = given; thenOnly = then-only; zero = none-given; zeroOnly = none-holds }
 
   -- by a test of the whole list
-  unfoldable pub positive : List (Rule Input) → Bool
-  positive [] = true
-  positive (r ∷ t) = ltb 0 (r .number) && positive t
+  unfoldable pub nonzero : List (Rule Input) → Bool
+  nonzero [] = true
+  nonzero (r ∷ t) = ltb 0 (r .number) && nonzero t
 
-  pub numbered : (t : List (Rule Input)) → T (positive t) → Numbered t
-  unfolding positive
+  pub numbered : (t : List (Rule Input)) → T (nonzero t) → Numbered t
+  unfolding nonzero
   numbered [] h = tt
-  numbered (r ∷ t) h = let p = both (ltb 0 (r .number)) (positive t) h in let k = ltb→lt 0 (r .number) (p .0) in ((λ e. omega arith), numbered t (p .1))
+  numbered (r ∷ t) h = let p = both (ltb 0 (r .number)) (nonzero t) h in let k = ltb→lt 0 (r .number) (p .0) in ((λ e. omega arith), numbered t (p .1))
 
 -- ---- further rules behind those of t
 

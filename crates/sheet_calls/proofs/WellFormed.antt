@@ -5,7 +5,7 @@ use mathlib.Core.List.{List}
 use native.Mathlib.Nat.{mul-le-mul, le-of-eq}
 use native.Mathlib.Omega.{arith}
 use lib.ListN.{length}
-use Rattle.sheet_layout.specs.Format.{headerSize, columns, rows, nodesOffset, sizeOf}
+use Rattle.sheet_layout.specs.Format.{headerSize, nodesOffset, statedSize}
 use Rattle.sheet_calls.specs.Refusals.{Accepted}
 use Rattle.sheet_calls.specs.WellFormed.{WellFormed, AcceptedLaws}
 use Rattle.sheet_calls.proofs.Conditions.{condition-laws}
@@ -55,5 +55,5 @@ header-there s a = omega (arith, sound s a .whole)
 pub lines-there : (s : List ℕ) → Accepted s → nodesOffset s ≤ length s
 lines-there s a = omega (arith, sound s a .whole)
 
-pub nodes-there : (s : List ℕ) → Accepted s → sizeOf (columns s) (rows s) ≤ length s
+pub nodes-there : (s : List ℕ) → Accepted s → statedSize s ≤ length s
 nodes-there s a = le-of-eq (sym (sound s a .whole))

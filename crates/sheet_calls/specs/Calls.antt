@@ -13,24 +13,24 @@ use Rattle.sheet_calls.specs.Refusals.{lookupRefusal, settingRefusal}
 -- ---- looking up
 
 -- a stretch of bytes: where it starts and how many they are
-pub record Span : Type 0 where
+pub record Stretch : Type 0 where
   pub start : ℕ
   pub size : ℕ
 
 -- n bytes from index a on
-abbrev pub span : ℕ → ℕ → Span
-span a n = record { start = a; size = n }
+abbrev pub stretch : ℕ → ℕ → Stretch
+stretch a n = record { start = a; size = n }
 
 -- the node's bytes, or, refused, none from the start
-unfoldable pub lookedUp : List ℕ → ℕ → ℕ → Span
-lookedUp s i j = cond (eqb (lookupRefusal s i j) 0) (span (nodeOffset s i j) nodeSize) (span 0 0)
+unfoldable pub lookedUp : List ℕ → ℕ → ℕ → Stretch
+lookedUp s i j = cond (eqb (lookupRefusal s i j) 0) (stretch (nodeOffset s i j) nodeSize) (stretch 0 0)
 
--- the bytes of a span
-abbrev pub bytesIn : List ℕ → Span → List ℕ
+-- the bytes of a sheet there
+abbrev pub bytesIn : List ℕ → Stretch → List ℕ
 bytesIn s p = take (p .size) (drop (p .start) s)
 
--- r is that part of the slice s itself: the same bytes, in the same block of memory, from the span's start on
-pub record Part (s r : RefT (List ℕ)) (p : Span) : Type 0 where
+-- r is that part of the slice s itself: the same bytes, in the same block of memory, from the stretch's start on
+pub record Part (s r : RefT (List ℕ)) (p : Stretch) : Type 0 where
   pub bytes : now r ≡ bytesIn (now s) p
   pub block : ptr r .0 ≡ ptr s .0
   pub address : ptr r .1 ≡ p .start + ptr s .1

@@ -7,7 +7,7 @@ use lib.IntN.{pos, negsuc}
 use Rattle.sheet_layout.specs.Format.{node, heightAt}
 use Rattle.sheet_layout.specs.Examples.{square, header, flat, sheetA, oblong}
 use Rattle.sheet_calls.specs.Refusals.{checkRefusal, lookupRefusal, settingRefusal, readingRefusal, runRefusal}
-use Rattle.sheet_calls.specs.Calls.{span, lookedUp, withNode}
+use Rattle.sheet_calls.specs.Calls.{stretch, lookedUp, withNode}
 
 -- a sheet and what checking it gives
 pub record Checked : Type 0 where
@@ -75,12 +75,12 @@ pub record Examples : Type 0 where
   -- node 00 of sheet A set to −1 step is 64 grains below
   pub lower : heightAt (withNode sheetA 0 0 (node (negsuc 0) (pos 0) (pos 0))) 0 0 ≡ negsuc 63
   -- its last node, and nodes that it does not have
-  pub lastNode : lookedUp sheetA 1 1 ≡ span 34 6
+  pub lastNode : lookedUp sheetA 1 1 ≡ stretch 34 6
   pub columnTooFar : lookupRefusal sheetA 2 0 ≡ 10
   pub rowTooFar : lookupRefusal sheetA 0 2 ≡ 10
   pub farthest : lookupRefusal sheetA 4294967295 0 ≡ 10
-  pub nothing : lookedUp sheetA 2 0 ≡ span 0 0
-  pub noSheet : lookedUp [] 0 0 ≡ span 0 0
+  pub nothing : lookedUp sheetA 2 0 ≡ stretch 0 0
+  pub noSheet : lookedUp [] 0 0 ≡ stretch 0 0
   -- setting it: 4,095 is FF 0F, −4,095 is 01 F0, −1 is FF FF
   pub setLast : withNode sheetA 1 1 (node (pos 4095) (negsuc 4094) (negsuc 0))
       ≡ take 34 sheetA ++ 255 ∷ 15 ∷ 1 ∷ 240 ∷ 255 ∷ 255 ∷ []

@@ -6,12 +6,12 @@ use lib.ListN.{length}
 use Rattle.sheet_words.specs.Word.{byteAt, Bytes}
 use Rattle.sheet_layout.specs.Format.{columns, rows, lineX, lineY, Node, decoded, encoded, nodeSize, nodeOffset, nodeAt}
 use Rattle.sheet_calls.specs.Refusals.{lookupRefusal, settingRefusal, Accepted}
-use Rattle.sheet_calls.specs.Calls.{span, lookedUp, bytesIn, withNode}
+use Rattle.sheet_calls.specs.Calls.{stretch, lookedUp, bytesIn, withNode}
 
 -- looking up hands back the six bytes of the node, or, refused, none from the start
 pub record LookupLaws : Type 0 where
-  pub found : (s : List ℕ) (i j : ℕ) → lookupRefusal s i j ≡ 0 → lookedUp s i j ≡ span (8 + 2 * columns s + 2 * rows s + 6 * (j * columns s + i)) 6
-  pub refused : (s : List ℕ) (i j : ℕ) → (lookupRefusal s i j ≡ 0 → ⊥) → lookedUp s i j ≡ span 0 0
+  pub found : (s : List ℕ) (i j : ℕ) → lookupRefusal s i j ≡ 0 → lookedUp s i j ≡ stretch (8 + 2 * columns s + 2 * rows s + 6 * (j * columns s + i)) 6
+  pub refused : (s : List ℕ) (i j : ℕ) → ¬ (lookupRefusal s i j ≡ 0) → lookedUp s i j ≡ stretch 0 0
   -- they lie in the sheet, and their numbers are the node's
   pub fits : (s : List ℕ) (i j : ℕ) → lookedUp s i j .start + lookedUp s i j .size ≤ length s
   pub numbers : (s : List ℕ) (i j : ℕ) → lookupRefusal s i j ≡ 0 → decoded (bytesIn s (lookedUp s i j)) ≡ nodeAt s i j
@@ -30,7 +30,7 @@ pub record Leaves (s : List ℕ) (i j : ℕ) (t : List ℕ) : Type 0 where
   pub linesX : (k : ℕ) → k < columns s → lineX t k ≡ lineX s k
   pub linesY : (k : ℕ) → k < rows s → lineY t k ≡ lineY s k
   -- every other node
-  pub others : (i′ j′ : ℕ) → i′ < columns s → ((i′ ≡ i) × (j′ ≡ j) → ⊥) → nodeAt t i′ j′ ≡ nodeAt s i′ j′
+  pub others : (i′ j′ : ℕ) → i′ < columns s → ¬ ((i′ ≡ i) × (j′ ≡ j)) → nodeAt t i′ j′ ≡ nodeAt s i′ j′
 
 -- node (i, j) of t reads back as v; looking it up hands back v's bytes, which decode to v
 pub record ReadsBack (i j : ℕ) (v : Node) (t : List ℕ) : Type 0 where
@@ -41,7 +41,7 @@ pub record ReadsBack (i j : ℕ) (v : Node) (t : List ℕ) : Type 0 where
 
 pub record SettingLaws : Type 0 where
   pub leaves : (s : List ℕ) (i j : ℕ) (v : Node) → Leaves s i j (withNode s i j v)
-  pub refused : (s : List ℕ) (i j : ℕ) (v : Node) → (settingRefusal s i j v ≡ 0 → ⊥) → withNode s i j v ≡ s
+  pub refused : (s : List ℕ) (i j : ℕ) (v : Node) → ¬ (settingRefusal s i j v ≡ 0) → withNode s i j v ≡ s
   pub readsBack : (s : List ℕ) (i j : ℕ) (v : Node) → settingRefusal s i j v ≡ 0 → ReadsBack i j v (withNode s i j v)
   -- setting twice is the last one
   pub twice : (s : List ℕ) (i j : ℕ) (v w : Node) → settingRefusal s i j w ≡ 0 → withNode (withNode s i j v) i j w ≡ withNode s i j w

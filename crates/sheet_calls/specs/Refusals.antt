@@ -7,7 +7,7 @@ use mathlib.Core.Bool.{Bool, false, not, _&&_, _||_}
 use lib.ListN.{length}
 use lib.Dec.{ltb, leb, eqb}
 use Rattle.sheet_layout.specs.Some.{some}
-use Rattle.sheet_layout.specs.Format.{headerSize, marked, version, supported, columns, rows, countIn, reserved, lineX, lineY, furthest, widest, Node, nodeIn, nodeAt, sizeOf}
+use Rattle.sheet_layout.specs.Format.{headerSize, marked, version, supported, columns, rows, countIn, reserved, lineX, lineY, furthest, widest, Node, nodeIn, statedSize, someNodeOut}
 use Rattle.sheet_calls.specs.Rules.{Rule, rule, firstRefusal}
 
 -- ---- the conditions, by their numbers
@@ -26,7 +26,7 @@ otherCounts s = not (countIn (columns s)) || not (countIn (rows s)) || not (eqb 
 
 -- 4: length is not the one stated
 unfoldable pub otherLength : List ℕ → Bool
-otherLength s = not (eqb (length s) (sizeOf (columns s) (rows s)))
+otherLength s = not (eqb (length s) (statedSize s))
 
 -- a line exceeds 4,096, does not rise above the one before it, or rises by more than 64
 unfoldable pub wrongStep : ℕ → ℕ → Bool
@@ -43,13 +43,13 @@ wrongLines s = some (wrongLine (lineX s)) (columns s) || some (wrongLine (lineY 
 
 -- 6: a height or slope outside −4,095 to 4,095
 unfoldable pub wrongNodes : List ℕ → Bool
-wrongNodes s = some (λ j. some (λ i. not (nodeIn (nodeAt s i j))) (columns s)) (rows s)
+wrongNodes s = someNodeOut s
 
--- a pixel left of the mesh's first line, right of its last, above or below it
+-- 7, of a reading: a pixel left of the mesh's first line, right of its last, above or below it
 unfoldable pub outside : List ℕ → ℕ → ℕ → Bool
 outside s x y = ltb x (lineX s 0) || ltb (lineX s (columns s - 1)) x || ltb y (lineY s 0) || ltb (lineY s (rows s - 1)) y
 
--- 7: a pixel outside the mesh; for a run that is not empty, also its last pixel
+-- 7, of a run: a pixel outside the mesh; where the run is not empty, also its last pixel
 unfoldable pub offMesh : List ℕ → ℕ → ℕ → ℕ → Bool
 offMesh s x y count = outside s x y || (not (eqb count 0) && outside s (x + count - 1) y)
 
@@ -91,7 +91,7 @@ sheetRules sheet =
     rule 6 (λ u. wrongNodes (sheet u)) ∷
     []
 
--- the number of the first of the six that holds, or 0: what every call asks of its sheet
+-- the number of the first of the six that holds, or 0: what a call asks that takes a sheet with nodes of heights and slopes
 unfoldable pub sheetRefusal : List ℕ → ℕ
 sheetRefusal s = firstRefusal (sheetRules (λ s. s)) s
 
@@ -155,7 +155,7 @@ runRules = sheetRules (λ u. u .sheet) ++ rule 7 (λ u. offMesh (u .sheet) (u .x
 unfoldable pub runRefusal : List ℕ → ℕ → ℕ → ℕ → ℕ
 runRefusal s x y count = firstRefusal runRules (record { sheet = s; x = x; y = y; count = count })
 
--- ---- the numbers that each call looks at, in order
+-- ---- the numbers that each call looks at, in order: 01's table by calls
 
 pub record CallNumbers : Type 0 where
   pub check : map (λ r. r .number) checkRules ≡ 1 ∷ 2 ∷ 3 ∷ 4 ∷ 5 ∷ 6 ∷ []

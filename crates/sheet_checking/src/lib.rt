@@ -3,11 +3,12 @@ ghost use mathlib.Core.Path.{_≡_};
 ghost use mathlib.Core.Bool.{false};
 ghost use Prim.Native.Nat.{_+_, _*_, _≤_, _<_};
 ghost use lib.ListN.{length};
-ghost use Rattle.sheet_layout.specs.Format.{headerSize, columns, rows, lineFrom, countIn, sizeOf};
+ghost use Rattle.sheet_layout.specs.Format.{headerSize, columns, rows, lineFrom, statedSize};
 ghost use Rattle.sheet_layout.specs.Some.{some};
 ghost use Rattle.sheet_calls.specs.Refusals.{otherMark, otherVersion, otherCounts, otherLength, wrongStep, wrongLine, wrongLines, wrongNodes, sheetRefusal, checkRefusal};
-use sheet_layout::header::HEADER_SIZE;
+use sheet_layout::X_LINES_OFFSET;
 use sheet_layout::header::columns;
+use sheet_layout::header::count_in;
 use sheet_layout::header::marked;
 use sheet_layout::header::reserved;
 use sheet_layout::header::rows;
@@ -61,7 +62,7 @@ fn body_refusal(sheet: &[u8]) -> u32
 fn other_mark(sheet: &[u8]) -> bool
     ensures { λ r. ⌜ r ≡ otherMark (now (sheet .entry)) ⌝ }
 {
-    if sheet.len() < HEADER_SIZE {
+    if sheet.len() < X_LINES_OFFSET {
         return true;
     }
     !marked(sheet)
@@ -78,13 +79,7 @@ fn other_counts(sheet: &[u8]) -> bool
     requires { ⌜ headerSize ≤ length (now sheet) ⌝ }
     ensures { λ r. ⌜ r ≡ otherCounts (now (sheet .entry)) ⌝ }
 {
-    !in_counts(columns(sheet)) | !in_counts(rows(sheet)) | (reserved(sheet) != 0)
-}
-
-fn in_counts(n: usize) -> bool
-    ensures { λ r. ⌜ r ≡ countIn n ⌝ }
-{
-    (2 <= n) & (n <= 65)
+    !count_in(columns(sheet)) | !count_in(rows(sheet)) | (reserved(sheet) != 0)
 }
 
 fn other_length(sheet: &[u8]) -> bool
@@ -95,10 +90,10 @@ fn other_length(sheet: &[u8]) -> bool
 }
 
 fn wrong_lines(sheet: &[u8]) -> bool
-    requires { ⌜ (0 < columns (now sheet)) × (0 < rows (now sheet)) × (length (now sheet) ≡ sizeOf (columns (now sheet)) (rows (now sheet))) ⌝ }
+    requires { ⌜ (0 < columns (now sheet)) × (0 < rows (now sheet)) × (length (now sheet) ≡ statedSize (now sheet)) ⌝ }
     ensures { λ r. ⌜ r ≡ wrongLines (now (sheet .entry)) ⌝ }
 {
-    let across = wrong_axis(sheet, HEADER_SIZE, columns(sheet));
+    let across = wrong_axis(sheet, X_LINES_OFFSET, columns(sheet));
     let down = wrong_axis(sheet, y_lines_offset(sheet), rows(sheet));
     across | down
 }
@@ -125,7 +120,7 @@ fn wrong_step(before: u32, position: u32) -> bool
 }
 
 fn wrong_nodes(sheet: &[u8]) -> bool
-    requires { ⌜ length (now sheet) ≡ sizeOf (columns (now sheet)) (rows (now sheet)) ⌝ }
+    requires { ⌜ length (now sheet) ≡ statedSize (now sheet) ⌝ }
     ensures { λ r. ⌜ r ≡ wrongNodes (now (sheet .entry)) ⌝ }
 {
     some_node_out(sheet)

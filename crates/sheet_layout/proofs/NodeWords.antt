@@ -11,7 +11,7 @@ use borrow.Author.Tests.{leb-true, le-leb, lt-leb}
 use Rattle.integers.proofs.Order.{cond-ind}
 use Rattle.sheet_words.specs.Word.{wordAt, signed}
 use Rattle.sheet_words.proofs.Replaced.{stretch-word}
-use Rattle.sheet_layout.specs.Format.{columns, rows, decoded, heightIn, slopeIn, nodeIn, nodesOffset, nodeSize, nodeOffset, nodeBytes, nodeAt}
+use Rattle.sheet_layout.specs.Format.{columns, rows, decoded, heightIn, slopeIn, nodeIn, nodesOffset, nodeSize, nodeOffset, nodeBytes, nodeAt, someNodeOut}
 use Rattle.sheet_layout.specs.Some.{some}
 use Rattle.sheet_layout.proofs.Gathered.{some-cong, some-rows}
 
@@ -71,7 +71,8 @@ module _ (s : List ℕ) where
         not-and (fits 0) (fits 2) (fits 4) ∙ (λ t. h t || p t || q t)
 
   -- one loop over all numbers
-  pub some-out : some wrongNumber (3 * (columns s * rows s)) ≡ some (λ j. some (λ i. not (nodeIn (nodeAt s i j))) (columns s)) (rows s)
+  pub some-out : some wrongNumber (3 * (columns s * rows s)) ≡ someNodeOut s
+  unfolding someNodeOut
   some-out =
       let count : 3 * (columns s * rows s) ≡ rows s * columns s * 3 = mul-comm 3 _ ∙ ap (λ k. k * 3) (mul-comm (columns s) (rows s)) in
       rw (count, some-rows wrongNumber 3 (rows s * columns s), some-rows (λ k. some (λ i. wrongNumber (k * 3 + i)) 3) (columns s) (rows s))

@@ -7,13 +7,13 @@ use native.Mathlib.Nat.{mul-le-mul, mul-comm, suc-mul, le-refl}
 use native.Mathlib.Decide.{decLt}
 use native.Mathlib.Omega.{arith}
 use lib.ListN.{length}
-use Rattle.sheet_layout.specs.Format.{columns, rows, nodeSize, nodeOffset, sizeOf}
+use Rattle.sheet_layout.specs.Format.{columns, rows, nodeSize, nodeOffset, statedSize}
 
 -- a later row starts behind all of an earlier one
 rows-apart : (m i j j′ : ℕ) → i < m → j < j′ → j * m + i < j′ * m
 rows-apart m i j j′ h k = omega (arith, suc-mul j m, mul-le-mul k (le-refl m))
 
-pub node-fits : (s : List ℕ) → sizeOf (columns s) (rows s) ≤ length s → (i j : ℕ) → i < columns s → j < rows s → nodeOffset s i j + nodeSize ≤ length s
+pub node-fits : (s : List ℕ) → statedSize s ≤ length s → (i j : ℕ) → i < columns s → j < rows s → nodeOffset s i j + nodeSize ≤ length s
 node-fits s whole i j h k = omega (arith, whole, rows-apart (columns s) i j (rows s) h k, mul-comm (rows s) (columns s))
 
 -- a node's index in the order of the rows tells its row and its column

@@ -2,10 +2,11 @@
 -- the end reads as 0. What a later version of the format may change stands behind one name each. Assumes nothing.
 use Prim.Native.Nat.{ℕ, _+_, _*_}
 use mathlib.Core.List.{List, _++_}
-use mathlib.Core.Bool.{Bool, _&&_}
+use mathlib.Core.Bool.{Bool, not, _&&_}
 use lib.ListN.{take, drop}
 use lib.Dec.{leb, eqb}
 use lib.IntN.{ℤ, pos, natAbs, _*ℤ_}
+use Rattle.sheet_layout.specs.Some.{some}
 use Rattle.sheet_words.specs.Word.{byteAt, wordAt, signed, bitsOf, bytesOf}
 
 -- ---- the header
@@ -128,9 +129,13 @@ nodeBytes s i j = take nodeSize (drop (nodeOffset s i j) s)
 unfoldable pub nodeAt : List ℕ → ℕ → ℕ → Node
 nodeAt s i j = decoded (nodeBytes s i j)
 
--- the length of a sheet with these lines: 8 + 2m + 2n + 6mn
-abbrev pub sizeOf : ℕ → ℕ → ℕ
-sizeOf m n = headerSize + 2 * m + 2 * n + nodeSize * (m * n)
+-- how many bytes a sheet with its counts of lines has: 8 + 2m + 2n + 6mn
+abbrev pub statedSize : List ℕ → ℕ
+statedSize s = nodesOffset s + nodeSize * (columns s * rows s)
+
+-- some node is out of range
+unfoldable pub someNodeOut : List ℕ → Bool
+someNodeOut s = some (λ j. some (λ i. not (nodeIn (nodeAt s i j))) (columns s)) (rows s)
 
 -- ---- a node's numbers in the units of a reading
 

@@ -2,11 +2,11 @@
 ghost use mathlib.Core.Path.{_≡_};
 ghost use Prim.Native.Nat.{_≤_, _<_};
 ghost use lib.ListN.{length};
-ghost use Rattle.sheet_layout.specs.Format.{headerSize, marked, version, supported, columns, rows, reserved};
+ghost use Rattle.sheet_layout.specs.Format.{headerSize, marked, version, supported, columns, rows, countIn, reserved};
 use sheet_words::wide;
 use sheet_words::word;
 
-// How many bytes it has; the vertical lines' positions start behind it.
+// How many bytes it has.
 pub const HEADER_SIZE: usize = 8;
 
 // Whether it starts with the mark LVS.
@@ -44,6 +44,13 @@ pub fn rows(sheet: &[u8]) -> usize
     ensures { λ r. ⌜ (r ≡ rows (now (sheet .entry))) × (r < 256) ⌝ }
 {
     wide(sheet[6]) as usize
+}
+
+// Whether an axis may have this many.
+pub fn count_in(n: usize) -> bool
+    ensures { λ r. ⌜ r ≡ countIn n ⌝ }
+{
+    (2 <= n) & (n <= 65)
 }
 
 // Byte 7, which has to be 0.

@@ -9,7 +9,7 @@ ghost use mathlib.Core.Bool.{true};
 ghost use Prim.Native.Nat.{_+_, _*_, _≤_, _<_};
 ghost use lib.ListN.{length};
 ghost use Rattle.sheet_words.specs.Word.{replaced};
-ghost use Rattle.sheet_layout.specs.Format.{headerSize, columns, rows, yLinesOffset, lineFrom, lineX, lineY, node, encoded, nodeIn, nodeSize, nodesOffset, nodeOffset, sizeOf, heightAt, slopeXAt, slopeYAt};
+ghost use Rattle.sheet_layout.specs.Format.{headerSize, columns, rows, yLinesOffset, lineFrom, lineX, lineY, node, encoded, nodeIn, nodeSize, nodesOffset, nodeOffset, statedSize, heightAt, slopeXAt, slopeYAt};
 use header::HEADER_SIZE;
 use header::columns;
 use header::rows;
@@ -17,6 +17,9 @@ use sheet_words::bits_of;
 use sheet_words::put_word;
 use sheet_words::signed_word;
 use sheet_words::word;
+
+// Where the vertical lines' positions start: behind the header.
+pub const X_LINES_OFFSET: usize = HEADER_SIZE;
 
 // How many bytes a node has.
 pub const NODE_SIZE: usize = 6;
@@ -26,7 +29,7 @@ pub fn y_lines_offset(sheet: &[u8]) -> usize
     requires { ⌜ headerSize ≤ length (now sheet) ⌝ }
     ensures { λ r. ⌜ (r ≡ yLinesOffset (now (sheet .entry))) × (r ≤ 518) ⌝ }
 {
-    HEADER_SIZE + 2 * columns(sheet)
+    X_LINES_OFFSET + 2 * columns(sheet)
 }
 
 // The position of line k of an axis whose positions start at an index.
@@ -42,7 +45,7 @@ pub fn line_x(sheet: &[u8], i: usize) -> u32
     requires { ⌜ (nodesOffset (now sheet) ≤ length (now sheet)) × (i < columns (now sheet)) ⌝ }
     ensures { λ r. ⌜ r ≡ lineX (now (sheet .entry)) i ⌝ }
 {
-    line_from(sheet, HEADER_SIZE, i)
+    line_from(sheet, X_LINES_OFFSET, i)
 }
 
 // The position of a horizontal line.
@@ -69,17 +72,17 @@ pub fn node_count(sheet: &[u8]) -> usize
     columns(sheet) * rows(sheet)
 }
 
-// How many bytes a sheet with these counts of lines has.
+// How many bytes a sheet with this one's counts of lines has.
 pub fn stated_size(sheet: &[u8]) -> usize
     requires { ⌜ headerSize ≤ length (now sheet) ⌝ }
-    ensures { λ r. ⌜ r ≡ sizeOf (columns (now (sheet .entry))) (rows (now (sheet .entry))) ⌝ }
+    ensures { λ r. ⌜ r ≡ statedSize (now (sheet .entry)) ⌝ }
 {
     nodes_offset(sheet) + NODE_SIZE * node_count(sheet)
 }
 
 // Where a node's bytes start.
 pub fn node_offset(sheet: &[u8], column: usize, row: usize) -> usize
-    requires { ⌜ (sizeOf (columns (now sheet)) (rows (now sheet)) ≤ length (now sheet)) × (column < columns (now sheet)) × (row < rows (now sheet)) ⌝ }
+    requires { ⌜ (statedSize (now sheet) ≤ length (now sheet)) × (column < columns (now sheet)) × (row < rows (now sheet)) ⌝ }
     ensures { λ r. ⌜ (r ≡ nodeOffset (now (sheet .entry)) column row) × (r + nodeSize ≤ length (now (sheet .entry))) ⌝ }
 {
     nodes_offset(sheet) + NODE_SIZE * (row * columns(sheet) + column)
@@ -87,7 +90,7 @@ pub fn node_offset(sheet: &[u8], column: usize, row: usize) -> usize
 
 // A node's height in grains, 64 to a step, and its slopes in grains per pixel.
 pub fn node_numbers(sheet: &[u8], column: usize, row: usize) -> [i64; 3]
-    requires { ⌜ (sizeOf (columns (now sheet)) (rows (now sheet)) ≤ length (now sheet)) × (column < columns (now sheet)) × (row < rows (now sheet)) ⌝ }
+    requires { ⌜ (statedSize (now sheet) ≤ length (now sheet)) × (column < columns (now sheet)) × (row < rows (now sheet)) ⌝ }
     ensures { λ r. ⌜ r ≡ heightAt (now (sheet .entry)) column row ∷ slopeXAt (now (sheet .entry)) column row ∷ slopeYAt (now (sheet .entry)) column row ∷ [] ⌝ }
 {
     let at = node_offset(sheet, column, row);

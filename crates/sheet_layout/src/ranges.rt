@@ -5,15 +5,15 @@ ghost use Prim.Native.Nat.{_+_, _*_, _≤_, _<_};
 ghost use lib.ListN.{length};
 ghost use Rattle.sheet_words.specs.Word.{wordAt, signed};
 ghost use Rattle.sheet_layout.specs.Some.{some};
-ghost use Rattle.sheet_layout.specs.Format.{columns, rows, node, slopeIn, nodeIn, nodeAt, sizeOf};
+ghost use Rattle.sheet_layout.specs.Format.{node, slopeIn, nodeIn, statedSize, someNodeOut};
 use super::node_count;
 use super::nodes_offset;
 use sheet_words::word;
 
 // Whether some node of the sheet is out of range.
 pub fn some_node_out(sheet: &[u8]) -> bool
-    requires { ⌜ sizeOf (columns (now sheet)) (rows (now sheet)) ≤ length (now sheet) ⌝ }
-    ensures { λ r. ⌜ r ≡ some (λ j. some (λ i. not (nodeIn (nodeAt (now (sheet .entry)) i j))) (columns (now (sheet .entry)))) (rows (now (sheet .entry))) ⌝ }
+    requires { ⌜ statedSize (now sheet) ≤ length (now sheet) ⌝ }
+    ensures { λ r. ⌜ r ≡ someNodeOut (now (sheet .entry)) ⌝ }
 {
     some_word_out(sheet, nodes_offset(sheet), 3 * node_count(sheet))
 }

@@ -10,7 +10,7 @@ use mir.Val.{SFits, toZ, ofZ}
 use Rattle.sheet_words.specs.Word.{replaced}
 use Rattle.sheet_layout.specs.Format.{Node, node, encoded, nodeSize, nodeOffset}
 use Rattle.sheet_calls.specs.Refusals.{noNode, wrongNumbers, sheetRefusal, lookupRefusal, settingRefusal}
-use Rattle.sheet_calls.specs.Calls.{span, lookedUp, withNode}
+use Rattle.sheet_calls.specs.Calls.{stretch, lookedUp, withNode}
 use Rattle.sheet_calls.proofs.Rules.{refused-by, passed-by}
 use Rattle.sheet_calls.proofs.Chains.{lookup-is, setting-is}
 use Rattle.sheet_calls.proofs.Lookup.{lookup-laws}
@@ -24,10 +24,10 @@ module _ (s : List ℕ) (i j : ℕ) {r : ℕ} (e : r ≡ sheetRefusal s) where
   node-answer h q = ap (λ b. cond b 10 0) (sym q) ∙ passed-by _ _ (lookup-is s i j) e h
 
 module _ (s : List ℕ) (i j : ℕ) {r : ℕ} (e : r ≡ lookupRefusal s i j) where
-  pub looked-none : (r ≡ 0 → ⊥) → lookedUp s i j ≡ span 0 0
+  pub looked-none : (r ≡ 0 → ⊥) → lookedUp s i j ≡ stretch 0 0
   looked-none h = lookup-laws .refused s i j (λ z. h (e ∙ z))
 
-  pub looked-found : r ≡ 0 → lookedUp s i j ≡ span (nodeOffset s i j) nodeSize
+  pub looked-found : r ≡ 0 → lookedUp s i j ≡ stretch (nodeOffset s i j) nodeSize
   looked-found h = lookup-laws .found s i j (sym e ∙ h)
 
 -- ---- the setting's: n is the answer and t the sheet that is left

@@ -4,7 +4,7 @@ ghost use Prim.Native.Nat.{_+_, _≤_};
 ghost use lib.ListN.{length};
 ghost use Rattle.sheet_layout.specs.Format.{headerSize, node, nodeSize, nodeOffset};
 ghost use Rattle.sheet_calls.specs.Refusals.{noNode, wrongNumbers, lookupRefusal, settingRefusal};
-ghost use Rattle.sheet_calls.specs.Calls.{lookedUp, span, Part, withNode};
+ghost use Rattle.sheet_calls.specs.Calls.{lookedUp, stretch, Part, withNode};
 use sheet_checking::sheet_refusal;
 use sheet_layout::NODE_SIZE;
 use sheet_layout::header::columns;
@@ -64,7 +64,7 @@ pub fn set_node(
 // The bytes of a node that the sheet has.
 fn found(sheet: &[u8], column: u32, row: u32) -> &[u8]
     requires { ⌜ lookupRefusal (now sheet) column row ≡ 0 ⌝ }
-    ensures { λ r. ⌜ Part (sheet .entry) r (span (nodeOffset (now (sheet .entry)) column row) nodeSize) ⌝ }
+    ensures { λ r. ⌜ Part (sheet .entry) r (stretch (nodeOffset (now (sheet .entry)) column row) nodeSize) ⌝ }
 {
     let start = offset(sheet, column, row);
     let end = start + NODE_SIZE;

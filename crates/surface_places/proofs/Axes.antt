@@ -1,11 +1,12 @@
--- The two axes of an accepted sheet. Assumes nothing.
-use Prim.Native.Nat.{ℕ, _-_}
+-- The two axes of a sheet; those of an accepted one. Assumes nothing.
+use Prim.Native.Nat.{ℕ, _-_, _≤_}
 use mathlib.Core.Path.{_≡_, refl, sym}
 use mathlib.Core.Bool.{_||_, or-assoc}
 use mathlib.Core.List.{List}
 use native.Mathlib.Omega.{arith}
 use lib.Dec.{ltb}
-use Rattle.sheet_layout.specs.Format.{columns, rows, lineFrom, xLinesOffset, yLinesOffset, lineX, lineY}
+use lib.ListN.{length}
+use Rattle.sheet_layout.specs.Format.{headerSize, columns, rows, lineFrom, xLinesOffset, yLinesOffset, lineX, lineY}
 use Rattle.sheet_calls.specs.Refusals.{outside, Accepted}
 use Rattle.sheet_calls.specs.WellFormed.{Inside}
 use Rattle.element_sibson.specs.Piece.{pieceAt}
@@ -15,7 +16,7 @@ use Rattle.element_cell.specs.declared.Pixel.{Pixel}
 use Rattle.surface_of_sheet.specs.Place.{cellOf, columnAt, rowAt, place}
 use Rattle.surface_of_sheet.proofs.Cells.{sound}
 use Rattle.surface_places.specs.declared.OnAxis.{OnAxis}
-use Rattle.surface_places.specs.Found.{Axis, Between, offAxis, onAxis, holding}
+use Rattle.surface_places.specs.Found.{Mesh, Between, offAxis, onAxis, holding}
 use Rattle.surface_places.proofs.Search.{size-side, offset-below}
 
 -- a pixel lies outside the mesh where it is off one of the axes
@@ -38,24 +39,27 @@ pub place-is : (s : List ℕ) (x y : ℕ) → record { column = alongX s x .cell
 unfolding onAxis columnAt rowAt cellOf place holding
 place-is s x y = refl
 
-module _ (s : List ℕ) (accepted : Accepted s) where
-  pub x-axis : Axis s xLinesOffset (columns s)
-  x-axis = let w = sound s accepted in record { few = w .fewColumns; many = w .manyColumns; there = omega (arith, w .whole); rising = w .risingX }
+pub mesh : (s : List ℕ) → Accepted s → Mesh s
+mesh s accepted = let w = sound s accepted in record {
+  across = record { few = w .fewColumns; many = w .manyColumns; there = omega (arith, w .whole); rising = w .risingX };
+  down = record { few = w .fewRows; many = w .manyRows; there = omega (arith, w .whole); rising = w .risingY };
+}
 
-  pub y-axis : Axis s (yLinesOffset s) (rows s)
-  y-axis = let w = sound s accepted in record { few = w .fewRows; many = w .manyRows; there = omega (arith, w .whole); rising = w .risingY }
+-- the header of a sheet with axes is there
+pub header-read : {s : List ℕ} → Mesh s → headerSize ≤ length s
+header-read m = omega (arith, m .across .there)
 
-  module _ (x y : ℕ) (inside : Inside s x y) where
-    pub x-between : Between (lineFrom s xLinesOffset) (columns s) x
-    x-between = record { first = inside .left; last = inside .right }
+module _ (s : List ℕ) (x y : ℕ) (inside : Inside s x y) where
+  pub x-between : Between (lineFrom s xLinesOffset) (columns s) x
+  x-between = record { first = inside .left; last = inside .right }
 
-    pub y-between : Between (lineFrom s (yLinesOffset s)) (rows s) y
-    y-between = record { first = inside .top; last = inside .bottom }
+  pub y-between : Between (lineFrom s (yLinesOffset s)) (rows s) y
+  y-between = record { first = inside .top; last = inside .bottom }
 
-    pub pixel-inside : PixelInCell (pixelAt s x y)
-    pixel-inside = record {
-      width = size-side _ _ _ _ x-axis x-between;
-      height = size-side _ _ _ _ y-axis y-between;
-      across = offset-below _ _ _ _ x-axis x-between;
-      down = offset-below _ _ _ _ y-axis y-between;
-    }
+  pub pixel-inside : Mesh s → PixelInCell (pixelAt s x y)
+  pixel-inside m = record {
+    width = size-side _ _ _ _ (m .across) x-between;
+    height = size-side _ _ _ _ (m .down) y-between;
+    across = offset-below _ _ _ _ (m .across) x-between;
+    down = offset-below _ _ _ _ (m .down) y-between;
+  }

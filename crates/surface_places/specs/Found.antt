@@ -5,7 +5,7 @@ use mathlib.Core.Bool.{Bool, _||_}
 use lib.Dec.{ltb}
 use lib.ListN.{length}
 use Rattle.element_cell.specs.Pieces.{named}
-use Rattle.sheet_layout.specs.Format.{lineFrom, lineX, lineY}
+use Rattle.sheet_layout.specs.Format.{columns, rows, xLinesOffset, yLinesOffset, lineFrom, lineX, lineY}
 use Rattle.sheet_calls.specs.WellFormed.{Rising}
 use Rattle.surface_of_sheet.specs.Place as surface
 use Rattle.surface_of_sheet.specs.Place.{cellAlong}
@@ -19,6 +19,11 @@ pub record Axis (s : List ℕ) (start lines : ℕ) : Type 0 where
   pub there : start + 2 * lines ≤ length s
   pub rising : Rising (lineFrom s start) lines
 
+-- the two axes of a sheet: what finding a pixel asks of it, whatever its nodes
+pub record Mesh (s : List ℕ) : Type 0 where
+  pub across : Axis s xLinesOffset (columns s)
+  pub down : Axis s (yLinesOffset s) (rows s)
+
 -- a position from its first line to its last
 pub record Between (line : ℕ → ℕ) (lines position : ℕ) : Type 0 where
   pub first : line 0 ≤ position
@@ -28,7 +33,7 @@ pub record Between (line : ℕ → ℕ) (lines position : ℕ) : Type 0 where
 unfoldable pub offAxis : (ℕ → ℕ) → ℕ → ℕ → Bool
 offAxis line lines position = ltb position (line 0) || ltb (line (lines - 1)) position
 
--- along an axis: the cell, the offset from its first line, and its size, the distance of its lines
+-- along an axis, of its cells 0 to k: the cell, the offset from its first line, and its size, the distance of its lines
 unfoldable pub onAxis : (ℕ → ℕ) → ℕ → ℕ → OnAxis
 onAxis line k position = let i = cellAlong line k position in record { cell = i; offset = position - line i; size = line (suc i) - line i }
 

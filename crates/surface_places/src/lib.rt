@@ -1,15 +1,15 @@
-// Where a pixel lies on an accepted sheet: outside the mesh, or in a cell, at offsets in it, in a piece of it.
+// Where a pixel lies on a sheet: outside the mesh, or in a cell, at offsets in it, in a piece of it.
 ghost use mathlib.Core.Path.{_≡_};
 ghost use Prim.Native.Nat.{_-_};
 ghost use Rattle.sheet_layout.specs.Format.{lineFrom};
-ghost use Rattle.sheet_calls.specs.Refusals.{outside, Accepted};
+ghost use Rattle.sheet_calls.specs.Refusals.{outside};
 ghost use Rattle.sheet_calls.specs.WellFormed.{Inside};
 ghost use Rattle.surface_of_sheet.specs.Place.{cellAlong, place};
-ghost use Rattle.surface_places.specs.Found.{Axis, Between, offAxis, onAxis, holding};
+ghost use Rattle.surface_places.specs.Found.{Axis, Mesh, Between, offAxis, onAxis, holding};
 use element_cell::Piece;
 use element_cell::Pixel;
 use element_cell::piece_at;
-use sheet_layout::header::HEADER_SIZE;
+use sheet_layout::X_LINES_OFFSET;
 use sheet_layout::header::columns;
 use sheet_layout::header::rows;
 use sheet_layout::line_from;
@@ -32,20 +32,20 @@ struct OnAxis {
 
 // Whether the pixel lies outside the mesh.
 pub fn outside(sheet: &[u8], x: u32, y: u32) -> bool
-    requires { ⌜ Accepted (now sheet) ⌝ }
+    requires { ⌜ Mesh (now sheet) ⌝ }
     ensures { λ r. ⌜ r ≡ outside (now (sheet .entry)) x y ⌝ }
 {
-    let across = off_axis(sheet, HEADER_SIZE, columns(sheet), x);
+    let across = off_axis(sheet, X_LINES_OFFSET, columns(sheet), x);
     let down = off_axis(sheet, y_lines_offset(sheet), rows(sheet), y);
     across | down
 }
 
 // The place of a pixel of the mesh.
 pub fn find(sheet: &[u8], x: u32, y: u32) -> Place
-    requires { ⌜ Accepted (now sheet) × Inside (now sheet) x y ⌝ }
+    requires { ⌜ Mesh (now sheet) × Inside (now sheet) x y ⌝ }
     ensures { λ r. ⌜ r ≡ holding (now (sheet .entry)) (place (now (sheet .entry)) x y) ⌝ }
 {
-    let across = on_axis(sheet, HEADER_SIZE, columns(sheet), x);
+    let across = on_axis(sheet, X_LINES_OFFSET, columns(sheet), x);
     let down = on_axis(sheet, y_lines_offset(sheet), rows(sheet), y);
     let pixel = Pixel {
         a: across.offset,

@@ -6,6 +6,7 @@ use mathlib.Core.Bool.{false}
 use native.Mathlib.Omega.{arith}
 use borrow.Author.Needs.{needs}
 use Rattle.sheet_calls.specs.Refusals.{outside}
+use Rattle.surface_places.proofs.Axes.{mesh}
 use Rattle.surface_filling.proofs.OffMesh.{first-off, no-last, last-off, far-off, not-far}
 use Rattle.surface_filling.proofs.off_mesh.Statement.{statement}
 use Rattle.surface_filling.proofs.off_mesh.Tie as tie
@@ -33,12 +34,12 @@ pub off-mesh-spec : {M : Type 1} → statement M
 off-mesh-spec =
     tie.close
     (tie.spec
-    (λ c κs. search needs)
+    (λ c κs. mesh _ (c .before .pre))
     (λ c. first-off _ _ _ _ (sym (c .before .outside .ensures) ∙ c .if1 .taken))
     (λ c. no-last _ _ _ _ (on-mesh (c .before)) (c .if2 .taken))
     returns-3
     (λ c. search needs)
     (λ c. search needs)
     add-outside
-    (λ c κs. search needs)
+    (λ c κs. mesh _ (c .before .before .before .before .before .pre))
     returns-4)

@@ -1,5 +1,5 @@
 -- `surface_pixels::locate` meets its contract. Assumes nothing.
-use borrow.Author.Needs.{needs}
+use Rattle.surface_places.proofs.Axes.{mesh}
 use Rattle.surface_pixels.proofs.Cubics.{found-inside, found-cell, numbers-in, located-is}
 use Rattle.surface_pixels.proofs.locate.Statement.{statement}
 use Rattle.surface_pixels.proofs.locate.Tie as tie
@@ -21,4 +21,4 @@ returns c =
     located-is _ _ _ (h .0) (h .1) (d .find .ensures) (n .corner-numbers .ensures) (c .coefficients .ensures)
 
 pub locate-spec : {M : Type 1} → statement M
-locate-spec = tie.close (tie.spec (λ c κs. search needs) corner-numbers-requires coefficients-requires returns)
+locate-spec = tie.close (tie.spec (λ c κs. let h = c .before .pre in (mesh _ (h .0), h .1)) corner-numbers-requires coefficients-requires returns)

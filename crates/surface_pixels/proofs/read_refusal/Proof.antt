@@ -7,6 +7,7 @@ use borrow.Author.Tests.{lt-ltb, le-ltb}
 use Rattle.sheet_calls.specs.Refusals.{outside, sheetRefusal}
 use Rattle.sheet_calls.proofs.Rules.{refused-by}
 use Rattle.sheet_calls.proofs.Chains.{accepts, reading-is}
+use Rattle.surface_places.proofs.Axes.{mesh}
 use Rattle.surface_pixels.proofs.Refusal.{pixel-answer}
 use Rattle.surface_pixels.proofs.read_refusal.Statement.{statement}
 use Rattle.surface_pixels.proofs.read_refusal.Tie as tie
@@ -20,7 +21,7 @@ on-mesh : (o : tie.Else2) → let a = o .before .before .before .before .before 
 on-mesh o = sym (o .if2 .left) ∙ o .before .outside .ensures
 
 outside-requires : tie.Need-outside-requires
-outside-requires c κs = accepts (accepted c)
+outside-requires c κs = mesh _ (accepts (accepted c))
 
 returns-2 : tie.Need-returns-2
 returns-2 c = pixel-answer _ _ _ _ (accepted (c .before .before)) (sym (c .if2 .taken) ∙ c .before .outside .ensures) refl

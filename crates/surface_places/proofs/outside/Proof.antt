@@ -1,14 +1,13 @@
 -- `surface_places::outside` meets its contract. Assumes nothing.
-use Rattle.sheet_calls.proofs.WellFormed.{header-there}
-use Rattle.surface_places.proofs.Axes.{off-either, x-axis, y-axis}
+use Rattle.surface_places.proofs.Axes.{off-either, header-read}
 use Rattle.surface_places.proofs.outside.Statement.{statement}
 use Rattle.surface_places.proofs.outside.Tie as tie
 
 off-axis-requires : tie.Need-off-axis-requires
-off-axis-requires c κs = rw (c .columns .ensures .0) (x-axis _ (c .before .before .pre))
+off-axis-requires c κs = rw (c .columns .ensures .0) (c .before .before .pre .across)
 
 off-axis-requires-2 : tie.Need-off-axis-requires-2
-off-axis-requires-2 c κs = rw (c .rows .ensures .0, c .before .y-lines-offset .ensures .0) (y-axis _ (c .before .before .before .before .before .pre))
+off-axis-requires-2 c κs = rw (c .rows .ensures .0, c .before .y-lines-offset .ensures .0) (c .before .before .before .before .before .pre .down)
 
 returns : tie.Need-returns
 returns c =
@@ -21,9 +20,9 @@ pub outside-spec : {M : Type 1} → statement M
 outside-spec =
     tie.close
     (tie.spec
-    (λ c κs. header-there _ (c .before .pre))
+    (λ c κs. header-read (c .before .pre))
     off-axis-requires
-    (λ c κs. header-there _ (c .before .before .before .pre))
-    (λ c κs. header-there _ (c .before .before .before .before .pre))
+    (λ c κs. header-read (c .before .before .before .pre))
+    (λ c κs. header-read (c .before .before .before .before .pre))
     off-axis-requires-2
     returns)

@@ -8,6 +8,7 @@ use Rattle.sheet_calls.specs.WellFormed.{OnMesh}
 use Rattle.surface_of_sheet.specs.Place.{columnAt, place}
 use Rattle.surface_places.specs.Found.{holding}
 use Rattle.surface_places.specs.declared.Place.{Place}
+use Rattle.surface_places.proofs.Axes as axes
 use Rattle.element_spans.specs.Span.{laid}
 use Rattle.surface_runs.specs.Strips.{stripAt, stripLevel, OnStrip}
 use Rattle.surface_runs.specs.declared.Strip.{Strip}
@@ -87,4 +88,4 @@ returns : tie.Need-returns Inv-loop μ-loop
 returns c = let b = c .before in let p = s (b .before) .pre in finishes _ _ _ _ _ _ (b .loop .inv (p .0)) (c .loop-test .left) (p .1)
 
 pub run-spec : {M : Type 1} → statement M
-run-spec = tie.close (tie.spec Inv-loop μ-loop (λ c κs. let m = c .before .pre .0 in (m .accepted, m .first)) loop-holds fill-column-requires (λ c. let n = near c in search needs) loop-less loop-again kept returns)
+run-spec = tie.close (tie.spec Inv-loop μ-loop (λ c κs. let m = c .before .pre .0 in (axes.mesh _ (m .accepted), m .first)) loop-holds fill-column-requires (λ c. let n = near c in search needs) loop-less loop-again kept returns)
