@@ -7,6 +7,7 @@ ghost use Rattle.sheet_layout.specs.Format.{headerSize, columns, rows, lineFrom
 ghost use Rattle.sheet_layout.specs.Some.{some};
 ghost use Rattle.sheet_calls.specs.Refusals.{otherMark, otherVersion, otherCounts, otherLength, wrongStep, wrongLine, wrongLines, wrongNodes, sheetRefusal, checkRefusal};
 use sheet_layout::X_LINES_OFFSET;
+use sheet_layout::header::HEADER_SIZE;
 use sheet_layout::header::columns;
 use sheet_layout::header::count_in;
 use sheet_layout::header::marked;
@@ -62,7 +63,7 @@ fn body_refusal(sheet: &[u8]) -> u32
 fn other_mark(sheet: &[u8]) -> bool
     ensures { λ r. ⌜ r ≡ otherMark (now (sheet .entry)) ⌝ }
 {
-    if sheet.len() < X_LINES_OFFSET {
+    if sheet.len() < HEADER_SIZE {
         return true;
     }
     !marked(sheet)
