@@ -3,13 +3,13 @@
 use Prim.Native.Nat.{ℕ, suc, _+_, _-_, _≤_, _<_}
 use mathlib.Core.Path.{_≡_, refl, sym, _∙_, ap}
 use mathlib.Core.Logic.{_↔_}
-use mathlib.Core.List.{List, [], _∷_, _++_}
+use mathlib.Core.List.{List, _++_}
 use mathlib.Core.Bool.{Bool, true, false, cond}
 use native.Mathlib.Omega.{arith}
 use native.Mathlib.Decide.{ℕ-discrete}
 use borrow.Author.Tests.{ne-eqb, not-false}
 use Rattle.sheet_layout.specs.Format.{columns, rows, Node, nodeIn}
-use Rattle.sheet_calls.specs.Rules.{Rule, rule, firstRefusal}
+use Rattle.sheet_calls.specs.Rules.{Rule, firstRefusal}
 use Rattle.sheet_calls.specs.Refusals.{otherMark, otherVersion, otherCounts, otherLength, wrongLines, wrongNodes, outside, offMesh, emptyRun, otherKind, noNode, wrongNumbers, Accepted, sheetRules, sheetRefusal, checkRules, checkRefusal, lookupRules, lookupRefusal, settingRules, settingRefusal, readingRules, readingRefusal, runRules, runRefusal, CallNumbers}
 use Rattle.sheet_calls.specs.WellFormed.{Inside, OnMesh}
 use Rattle.sheet_calls.proofs.Rules.{rule-laws, nonzero, numbered, orElse, first-append, zero-or, or-zero}
@@ -52,7 +52,7 @@ sheet-append sheet more u = first-append (sheetRules sheet) more u (numbered (sh
 
 pub lookup-is : (s : List ℕ) (i j : ℕ) → lookupRefusal s i j ≡ orElse (sheetRefusal s) (cond (noNode s i j) 10 0)
 unfolding lookupRefusal lookupRules firstRefusal
-lookup-is s i j = sheet-append (λ u. u .sheet) (rule 10 (λ u. noNode (u .sheet) (u .column) (u .row)) ∷ []) (record { sheet = s; column = i; row = j })
+lookup-is s i j = sheet-append _ _ _
 
 -- a last test behind those of n and 10
 behind-ten : (n : ℕ) (b : Bool) (k : ℕ) → orElse n (cond b 10 k) ≡ orElse (orElse n (cond b 10 0)) k
@@ -66,20 +66,15 @@ behind-ten n b k = elim (ℕ-discrete n 0) [ yes e ↦ rw e (by b) | no h ↦ rw
 pub setting-is : (s : List ℕ) (i j : ℕ) (v : Node) → settingRefusal s i j v ≡ orElse (lookupRefusal s i j) (cond (wrongNumbers v) 11 0)
 unfolding settingRefusal settingRules firstRefusal
 setting-is s i j v =
-    sheet-append (λ u. u .sheet) (rule 10 (λ u. noNode (u .sheet) (u .column) (u .row)) ∷ rule 11 (λ u. wrongNumbers (u .numbers)) ∷ [])
-    (record { sheet = s; column = i; row = j; numbers = v })
-    ∙ behind-ten (sheetRefusal s) (noNode s i j) _ ∙ ap (λ n. orElse n (cond (wrongNumbers v) 11 0)) (sym (lookup-is s i j))
+    sheet-append _ _ _ ∙ behind-ten (sheetRefusal s) (noNode s i j) _ ∙ ap (λ n. orElse n (cond (wrongNumbers v) 11 0)) (sym (lookup-is s i j))
 
 pub reading-is : (s : List ℕ) (x y kind : ℕ) → readingRefusal s x y kind ≡ orElse (sheetRefusal s) (cond (outside s x y) 7 (cond (otherKind kind) 9 0))
 unfolding readingRefusal readingRules firstRefusal
-reading-is s x y kind =
-    sheet-append (λ u. u .sheet) (rule 7 (λ u. outside (u .sheet) (u .x) (u .y)) ∷ rule 9 (λ u. otherKind (u .kind)) ∷ []) (record { sheet = s; x = x; y = y; kind = kind })
+reading-is s x y kind = sheet-append _ _ _
 
 pub run-is : (s : List ℕ) (x y count : ℕ) → runRefusal s x y count ≡ orElse (sheetRefusal s) (cond (offMesh s x y count) 7 (cond (emptyRun count) 8 0))
 unfolding runRefusal runRules firstRefusal
-run-is s x y count =
-    sheet-append (λ u. u .sheet) (rule 7 (λ u. offMesh (u .sheet) (u .x) (u .y) (u .count)) ∷ rule 8 (λ u. emptyRun (u .count)) ∷ [])
-    (record { sheet = s; x = x; y = y; count = count })
+run-is s x y count = sheet-append _ _ _
 
 -- ---- what a call that is not refused says of its input, and the other way round
 

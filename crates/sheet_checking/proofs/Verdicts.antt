@@ -40,8 +40,8 @@ module _ (s : List ℕ) where
         pub by-nodes : wrongNodes s ≡ true → 6 ≡ sheetRefusal s
         by-nodes e = rw (sheet-is s, h .0, h .1, h .2, size, lines, e) refl
 
-        pub accepts : wrongNodes s ≡ false → 0 ≡ sheetRefusal s
-        accepts e = rw (sheet-is s, h .0, h .1, h .2, size, lines, e) refl
+        pub passes : wrongNodes s ≡ false → 0 ≡ sheetRefusal s
+        passes e = rw (sheet-is s, h .0, h .1, h .2, size, lines, e) refl
 
-  pub lines-there : otherCounts s ≡ false → (0 < columns s) × (0 < rows s)
-  lines-there e = let h = condition-laws .three s .0 e in (omega (arith, h .0), omega (arith, h .2))
+  pub some-lines : otherCounts s ≡ false → (0 < columns s) × (0 < rows s)
+  some-lines e = let h = condition-laws .three s .0 e in (omega (arith, h .0), omega (arith, h .2))
