@@ -4,6 +4,7 @@ use mathlib.Core.List.{map}
 use Rattle.sheet_words.specs.Word.{signed, bitsOf, bytesOf}
 use Rattle.sheet_layout.specs.Format.{marked, supported, countIn, decoded, encoded, heightIn, slopeIn, nodeIn, nodeAt, heightAt, someNodeOut}
 use Rattle.sheet_layout.specs.Some.{some}
+use Rattle.sheet_layout.specs.Examples.{evenly}
 use Rattle.sheet_calls.specs.Refusals.{otherMark, otherVersion, otherCounts, otherLength, wrongStep, wrongLine, wrongLines, wrongNodes, outside, offMesh, emptyRun, otherKind, noNode, wrongNumbers, sheetRules, checkRules, checkRefusal, lookupRules, lookupRefusal, settingRules, settingRefusal, readingRules, readingRefusal, runRules, runRefusal}
 use Rattle.sheet_calls.specs.Rules.{firstRefusal}
 use Rattle.sheet_calls.specs.Calls.{lookedUp, withNode}
@@ -14,8 +15,13 @@ unfolding signed marked supported countIn decoded heightIn slopeIn nodeIn nodeAt
 checks = refl
 
 pub examples : Examples
-unfolding signed bitsOf bytesOf marked supported countIn decoded encoded heightIn slopeIn nodeIn nodeAt heightAt some otherMark otherVersion otherCounts otherLength wrongStep wrongLine wrongLines someNodeOut wrongNodes outside offMesh emptyRun otherKind noNode wrongNumbers firstRefusal sheetRules lookupRules lookupRefusal settingRules settingRefusal readingRules readingRefusal runRules runRefusal lookedUp withNode
+unfolding signed bitsOf bytesOf evenly marked supported countIn decoded encoded heightIn slopeIn nodeIn nodeAt heightAt some otherMark otherVersion otherCounts otherLength wrongStep wrongLine wrongLines someNodeOut wrongNodes outside offMesh emptyRun otherKind noNode wrongNumbers firstRefusal sheetRules lookupRules lookupRefusal settingRules settingRefusal readingRules readingRefusal runRules runRefusal lookedUp withNode
 examples = record {
+  manyLines = refl;
+  manyCounts = refl;
+  manyBytes = refl;
+  lastColumnStays = refl;
+  lastRowStays = refl;
   checks = checks;
   lower = refl;
   lastNode = refl;

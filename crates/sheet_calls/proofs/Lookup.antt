@@ -1,11 +1,13 @@
 -- What looking up a node hands back. Assumes nothing.
-use Prim.Native.Nat.{ℕ, _+_, _≤_}
+use Prim.Native.Nat.{ℕ, _+_, _≤_, _<_}
 use mathlib.Core.Path.{_≡_, refl}
-use mathlib.Core.List.{List}
+use mathlib.Core.List.{List, []}
 use native.Mathlib.Decide.{ℕ-discrete}
 use native.Mathlib.Omega.{arith}
 use lib.ListN.{length}
 use borrow.Author.Tests.{eq-eqb, ne-eqb}
+use Rattle.sheet_words.specs.Word.{byteAt}
+use Rattle.sheet_words.proofs.Replaced.{stretch-length, stretch-byte}
 use Rattle.sheet_layout.specs.Format.{decoded, nodeSize, nodeOffset, nodeAt}
 use Rattle.sheet_layout.proofs.Offsets.{node-fits}
 use Rattle.sheet_calls.specs.Refusals.{lookupRefusal}
@@ -37,5 +39,14 @@ numbers : (s : List ℕ) (i j : ℕ) → lookupRefusal s i j ≡ 0 → decoded (
 unfolding nodeAt
 numbers s i j e = rw (found s i j e) refl
 
+six : (s : List ℕ) (i j : ℕ) → lookupRefusal s i j ≡ 0 → length (bytesIn s (lookedUp s i j)) ≡ 6
+six s i j e = rw (found s i j e) (stretch-length s (nodeOffset s i j) nodeSize (node-there s i j e))
+
+each : (s : List ℕ) (i j : ℕ) → lookupRefusal s i j ≡ 0 → (k : ℕ) → k < 6 → byteAt (bytesIn s (lookedUp s i j)) k ≡ byteAt s (nodeOffset s i j + k)
+each s i j e k l = rw (found s i j e) (stretch-byte s (nodeOffset s i j) nodeSize k l)
+
+none : (s : List ℕ) (i j : ℕ) → ¬ (lookupRefusal s i j ≡ 0) → bytesIn s (lookedUp s i j) ≡ []
+none s i j h = rw (refused s i j h) refl
+
 pub lookup-laws : LookupLaws
-lookup-laws = record { found = found; refused = refused; fits = fits; numbers = numbers }
+lookup-laws = record { found = found; refused = refused; fits = fits; numbers = numbers; six = six; each = each; none = none }

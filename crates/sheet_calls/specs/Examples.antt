@@ -2,11 +2,12 @@
 use Prim.Native.Nat.{ℕ}
 use mathlib.Core.Path.{_≡_}
 use mathlib.Core.List.{List, [], _∷_, _++_, map}
+use mathlib.Core.Bool.{true, false}
 use lib.ListN.{take, set}
 use lib.IntN.{pos, negsuc}
 use Rattle.sheet_layout.specs.Format.{node, heightAt}
-use Rattle.sheet_layout.specs.Examples.{square, header, flat, sheetA, oblong}
-use Rattle.sheet_calls.specs.Refusals.{checkRefusal, lookupRefusal, settingRefusal, readingRefusal, runRefusal}
+use Rattle.sheet_layout.specs.Examples.{square, header, flat, sheetA, oblong, largest}
+use Rattle.sheet_calls.specs.Refusals.{otherCounts, otherLength, wrongLines, checkRefusal, lookupRefusal, settingRefusal, readingRefusal, runRefusal}
 use Rattle.sheet_calls.specs.Calls.{stretch, lookedUp, withNode}
 
 -- a sheet and what checking it gives
@@ -32,11 +33,13 @@ checked =
     (set sheetA 3 2 gives 2) ∷
     (set sheetA 4 1 gives 2) ∷
     (header gives 4) ∷
-    -- 1, 65 and 66 lines, 0 rows, byte 7
+    -- 1, 65 and 66 columns, and rows; byte 7
     (set sheetA 5 1 gives 3) ∷
     (set sheetA 5 65 gives 4) ∷
     (set sheetA 5 66 gives 3) ∷
-    (set sheetA 6 0 gives 3) ∷
+    (set sheetA 6 1 gives 3) ∷
+    (set sheetA 6 65 gives 4) ∷
+    (set sheetA 6 66 gives 3) ∷
     (set sheetA 7 1 gives 3) ∷
     -- one byte too many, one too few
     (sheetA ++ 0 ∷ [] gives 4) ∷
@@ -71,6 +74,12 @@ checked =
     []
 
 pub record Examples : Type 0 where
+  -- 65 lines each way are in order, as are the counts and the length; the last line each way at the place of the one before is not
+  pub manyLines : wrongLines largest ≡ false
+  pub manyCounts : otherCounts largest ≡ false
+  pub manyBytes : otherLength largest ≡ false
+  pub lastColumnStays : wrongLines (set (set largest 136 192) 137 15) ≡ true
+  pub lastRowStays : wrongLines (set (set largest 266 134) 267 15) ≡ true
   pub checks : map (λ e. checkRefusal (e .sheet)) checked ≡ map (λ e. e .gives) checked
   -- node 00 of sheet A set to −1 step is 64 grains below
   pub lower : heightAt (withNode sheetA 0 0 (node (negsuc 0) (pos 0) (pos 0))) 0 0 ≡ negsuc 63

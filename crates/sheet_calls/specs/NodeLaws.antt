@@ -1,7 +1,7 @@
 -- Nodes: what looking one up hands back; what setting one changes and leaves. Assumes nothing.
 use Prim.Native.Nat.{ℕ, _+_, _*_, _≤_, _<_}
 use mathlib.Core.Path.{_≡_}
-use mathlib.Core.List.{List}
+use mathlib.Core.List.{List, []}
 use lib.ListN.{length}
 use Rattle.sheet_words.specs.Word.{byteAt, Bytes}
 use Rattle.sheet_layout.specs.Format.{columns, rows, lineX, lineY, Node, decoded, encoded, nodeSize, nodeOffset, nodeAt}
@@ -15,6 +15,11 @@ pub record LookupLaws : Type 0 where
   -- they lie in the sheet, and their numbers are the node's
   pub fits : (s : List ℕ) (i j : ℕ) → lookedUp s i j .start + lookedUp s i j .size ≤ length s
   pub numbers : (s : List ℕ) (i j : ℕ) → lookupRefusal s i j ≡ 0 → decoded (bytesIn s (lookedUp s i j)) ≡ nodeAt s i j
+  -- six bytes, each that of the sheet at its index; refused, no byte at all
+  pub six : (s : List ℕ) (i j : ℕ) → lookupRefusal s i j ≡ 0 → length (bytesIn s (lookedUp s i j)) ≡ 6
+  pub each : (s : List ℕ) (i j : ℕ) → lookupRefusal s i j ≡ 0 → (k : ℕ) → k < 6 →
+      byteAt (bytesIn s (lookedUp s i j)) k ≡ byteAt s (8 + 2 * columns s + 2 * rows s + 6 * (j * columns s + i) + k)
+  pub none : (s : List ℕ) (i j : ℕ) → ¬ (lookupRefusal s i j ≡ 0) → bytesIn s (lookedUp s i j) ≡ []
 
 -- what setting node (i, j) of s leaves, t
 pub record Leaves (s : List ℕ) (i j : ℕ) (t : List ℕ) : Type 0 where

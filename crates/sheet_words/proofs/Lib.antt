@@ -1,3 +1,4 @@
 pub mod Signs
 pub mod Bytes
 pub mod Replaced
+pub mod Laws

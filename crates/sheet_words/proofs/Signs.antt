@@ -44,6 +44,14 @@ signed-raised w k = elim (decLe 32768 w) [
   | no h ↦ let l : w < 32768 = omega arith in rw (lt-ltb w 32768 l) (subℕ-pos ((w + 32768) % 65536) 32768 w (omega arith))
 ]
 
+pub signed-natural : (w : ℕ) → w < 32768 → signed w ≡ pos w
+unfolding signed
+signed-natural w h = rw (lt-ltb w 32768 h) refl
+
+pub signed-negative : (w : ℕ) → 32768 ≤ w → w < 65536 → signed w +ℤ pos 65536 ≡ pos w
+unfolding signed
+signed-negative w h k = rw (le-ltb w 32768 h) (subℕ-pos 65536 (suc (65535 - w)) w (omega (arith, h, k)))
+
 pub signed-within : (w : ℕ) → w < 65536 → signed w within 32768
 unfolding signed
 signed-within w h =

@@ -6,7 +6,7 @@ use mathlib.Core.List.{List, [], _∷_, _++_}
 use mathlib.Core.Bool.{cond}
 use lib.ListN.{length, getD, take, drop}
 use lib.Dec.{ltb}
-use lib.IntN.{ℤ, pos, negsuc}
+use lib.IntN.{ℤ, pos, negsuc, _+ℤ_}
 use lib.Signed.{_≤ℤ_}
 
 -- ---- reading
@@ -44,8 +44,10 @@ replaced s i b = take i s ++ b ++ drop (i + length b) s
 unfoldable pub Bytes : List ℕ → Type 0
 Bytes s = (i : ℕ) → byteAt s i < 256
 
--- reading and writing are inverse
+-- signed numbers are in two's complement; reading and writing are inverse
 pub record WordLaws : Type 0 where
+  pub natural : (w : ℕ) → w < 32768 → signed w ≡ pos w
+  pub negative : (w : ℕ) → 32768 ≤ w → w < 65536 → signed w +ℤ pos 65536 ≡ pos w
   pub signedBits : (z : ℤ) → negsuc 32767 ≤ℤ z → z ≤ℤ pos 32767 → signed (bitsOf z) ≡ z
   pub bitsSigned : (w : ℕ) → w < 65536 → bitsOf (signed w) ≡ w
   pub wordBytes : (w : ℕ) → wordAt (bytesOf w) 0 ≡ w
