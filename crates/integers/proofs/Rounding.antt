@@ -66,4 +66,14 @@ cancels n d p k h = is (n *ℤ pos k) (d * k) (mul-pos p h) (round n d)
     (round n d) n (pos d) (pos k) (*ℤ-mono-r (pos-nonneg k) (<ℤ→suc≤ℤ (upper n d p))) (<→<ℤ h))
 
 pub rounding-laws : RoundingLaws
-rounding-laws = record { half-unit = half-unit; whole = whole; monotone = monotone; cancels = cancels; nearest = nearest; tie = tie }
+rounding-laws = record {
+  half-unit = half-unit;
+  whole = whole;
+  monotone = monotone;
+  cancels = cancels;
+  nearest = nearest;
+  down = lower;
+  below = upper;
+  only = is;
+  tie = tie;
+}

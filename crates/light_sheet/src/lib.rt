@@ -11,21 +11,24 @@ use surface_answers::Answer;
 
 // Checks a sheet: 0 where it is accepted, else the number of the first of the conditions 1 to 6 that holds.
 pub fn check(sheet: &[u8]) -> u32
-    ensures { λ r. ⌜ r ≡ checkRefusal (now (sheet .entry)) ⌝ }
+    ensures answer { λ r. ⌜ r ≡ checkRefusal (now (sheet .entry)) ⌝ }
+    ensures kept { λ r. ⌜ now (sheet .exit) ≡ now (sheet .entry) ⌝ }
 {
     sheet_checking::check(sheet)
 }
 
 // Looks up the node at a column and row, from 0: its six bytes inside the sheet; or, refused, an empty part from the sheet's start.
 pub fn node(sheet: &[u8], column: u32, row: u32) -> &[u8]
-    ensures { λ r. ⌜ Part (sheet .entry) r (lookedUp (now (sheet .entry)) column row) ⌝ }
+    ensures answer { λ r. ⌜ Part (sheet .entry) r (lookedUp (now (sheet .entry)) column row) ⌝ }
+    ensures kept { λ r. ⌜ now (sheet .exit) ≡ now (sheet .entry) ⌝ }
 {
     sheet_nodes::node(sheet, column, row)
 }
 
 // The companion of `node`: the number that refuses it on the same input (1 to 6, 10), or 0.
 pub fn node_refusal(sheet: &[u8], column: u32, row: u32) -> u32
-    ensures { λ r. ⌜ r ≡ lookupRefusal (now (sheet .entry)) column row ⌝ }
+    ensures answer { λ r. ⌜ r ≡ lookupRefusal (now (sheet .entry)) column row ⌝ }
+    ensures kept { λ r. ⌜ now (sheet .exit) ≡ now (sheet .entry) ⌝ }
 {
     sheet_nodes::node_refusal(sheet, column, row)
 }
@@ -49,7 +52,8 @@ pub fn set_node(
 // Reads at the pixel (x, y): kind 0 is the level in steps, 1 the tilt (x, y) in steps per pixel, 2 the bend (xx, xy, yy) in steps per pixel per pixel; or
 // `Refused` with the number (1 to 6, 7, 9).
 pub fn read(sheet: &[u8], x: u32, y: u32, kind: u32) -> Answer
-    ensures { λ r. ⌜ outcome r ≡ read (now (sheet .entry)) x y kind ⌝ }
+    ensures answer { λ r. ⌜ outcome r ≡ read (now (sheet .entry)) x y kind ⌝ }
+    ensures kept { λ r. ⌜ now (sheet .exit) ≡ now (sheet .entry) ⌝ }
 {
     surface_pixels::read(sheet, x, y, kind)
 }
@@ -59,6 +63,7 @@ pub fn read(sheet: &[u8], x: u32, y: u32, kind: u32) -> Answer
 pub fn fill_run(sheet: &[u8], x: u32, y: u32, levels: &mut [i32]) -> u32
     ensures answer { λ r. ⌜ r ≡ runRefusal (now (sheet .entry)) x y (length (now (levels .entry))) ⌝ }
     ensures levels { λ r. ⌜ now (levels .exit) ≡ filled (now (sheet .entry)) x y (now (levels .entry)) ⌝ }
+    ensures kept { λ r. ⌜ now (sheet .exit) ≡ now (sheet .entry) ⌝ }
 {
     surface_filling::fill_run(sheet, x, y, levels)
 }

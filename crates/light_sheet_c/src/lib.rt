@@ -14,7 +14,8 @@ use surface_answers::Answer;
 // Checks a sheet: 0 where it is accepted, else the number of the first of the conditions 1 to 6 that holds.
 #[no_mangle]
 pub extern "C" fn lvs_check(sheet: &[u8]) -> u32
-    ensures { λ r. ⌜ r ≡ checkRefusal (now (sheet .entry)) ⌝ }
+    ensures answer { λ r. ⌜ r ≡ checkRefusal (now (sheet .entry)) ⌝ }
+    ensures kept { λ r. ⌜ now (sheet .exit) ≡ now (sheet .entry) ⌝ }
 {
     light_sheet::check(sheet)
 }
@@ -22,7 +23,8 @@ pub extern "C" fn lvs_check(sheet: &[u8]) -> u32
 // The number that refuses looking up the node at a column and row (1 to 6, 10), or 0.
 #[no_mangle]
 pub extern "C" fn lvs_node_refusal(sheet: &[u8], column: u32, row: u32) -> u32
-    ensures { λ r. ⌜ r ≡ lookupRefusal (now (sheet .entry)) column row ⌝ }
+    ensures answer { λ r. ⌜ r ≡ lookupRefusal (now (sheet .entry)) column row ⌝ }
+    ensures kept { λ r. ⌜ now (sheet .exit) ≡ now (sheet .entry) ⌝ }
 {
     light_sheet::node_refusal(sheet, column, row)
 }
@@ -31,7 +33,8 @@ pub extern "C" fn lvs_node_refusal(sheet: &[u8], column: u32, row: u32) -> u32
 // back.
 #[no_mangle]
 pub extern "C" fn lvs_node_offset(sheet: &[u8], column: u32, row: u32) -> usize
-    ensures { λ r. ⌜ r ≡ lookedUp (now (sheet .entry)) column row .start ⌝ }
+    ensures answer { λ r. ⌜ r ≡ lookedUp (now (sheet .entry)) column row .start ⌝ }
+    ensures kept { λ r. ⌜ now (sheet .exit) ≡ now (sheet .entry) ⌝ }
 {
     if light_sheet::node_refusal(sheet, column, row) != 0 {
         return 0;
@@ -62,6 +65,7 @@ pub extern "C" fn lvs_set_node(
 pub extern "C" fn lvs_read(sheet: &[u8], x: u32, y: u32, kind: u32, values: &mut [f64; 3]) -> u32
     ensures answer { λ r. ⌜ r ≡ read (now (sheet .entry)) x y kind .number ⌝ }
     ensures values { λ r. ⌜ now (values .exit) ≡ over (read (now (sheet .entry)) x y kind .values) (now (values .entry)) ⌝ }
+    ensures kept { λ r. ⌜ now (sheet .exit) ≡ now (sheet .entry) ⌝ }
 {
     store(light_sheet::read(sheet, x, y, kind), values)
 }
@@ -72,6 +76,7 @@ pub extern "C" fn lvs_read(sheet: &[u8], x: u32, y: u32, kind: u32, values: &mut
 pub extern "C" fn lvs_fill_run(sheet: &[u8], x: u32, y: u32, levels: &mut [i32]) -> u32
     ensures answer { λ r. ⌜ r ≡ runRefusal (now (sheet .entry)) x y (length (now (levels .entry))) ⌝ }
     ensures levels { λ r. ⌜ now (levels .exit) ≡ filled (now (sheet .entry)) x y (now (levels .entry)) ⌝ }
+    ensures kept { λ r. ⌜ now (sheet .exit) ≡ now (sheet .entry) ⌝ }
 {
     light_sheet::fill_run(sheet, x, y, levels)
 }

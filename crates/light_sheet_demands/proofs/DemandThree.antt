@@ -10,10 +10,13 @@ use Rattle.surface_of_sheet.proofs.Places.{place-laws}
 use Rattle.surface_of_sheet.proofs.Runs.{run-laws}
 use Rattle.surface_of_sheet.proofs.HalfUnits.{half-units}
 use Rattle.light_sheet_demands.specs.Demands.{DemandThree}
+use Rattle.light_sheet_demands.proofs.Refusals.{accepted-means}
+use Rattle.light_sheet_demands.proofs.Values.{outcome-is}
 
 pub demand-three : DemandThree
 unfolding jetAt exact
 demand-three = record {
+  accepted = accepted-means;
   unique = uniqueness .exactly;
   linear = linearity;
   widths = the-set .widths;
@@ -23,9 +26,9 @@ demand-three = record {
   only = λ s a i j h S m n. the-set .only s a i j h S (record { meets = m; nodes = n });
   sideBySide = shared-edges .sideBySide;
   oneAboveTheOther = shared-edges .oneAboveTheOther;
-  levels = λ a i c. half-units .returned _ _ _ 0 a i (lit≤ tt) _ (c .answer);
-  tilts = λ a i c. half-units .returned _ _ _ 1 a i (lit≤ tt) _ (c .answer);
-  bends = λ a i c. half-units .returned _ _ _ 2 a i (lit≤ tt) _ (c .answer);
+  levels = λ a i c. half-units .returned _ _ _ 0 a i (lit≤ tt) _ (outcome-is c);
+  tilts = λ a i c. half-units .returned _ _ _ 1 a i (lit≤ tt) _ (outcome-is c);
+  bends = λ a i c. half-units .returned _ _ _ 2 a i (lit≤ tt) _ (outcome-is c);
   places = place-laws;
   runs = λ c k l. rw (c .levels) (half-units .runs _ _ _ _ (sym (c .answer)) k l);
   reached = λ k a i j e c. c .answer ∙ rw e (run-laws .taken _ _ _ k a i j);

@@ -1,14 +1,16 @@
--- The customer's three demands, sentence by sentence, of whatever the calls of crates/light_sheet, and those for C, may give and leave by their contracts. Assumes
--- nothing.
-use Prim.Native.Nat.{ℕ, suc, _+_, _≤_, _<_}
+-- The customer's three demands, sentence by sentence, of whatever the calls of crates/light_sheet, and those for C, may give and leave by their contracts, which
+-- Contracts has as records. Assumes nothing.
+use Prim.Native.Nat.{ℕ, suc, _+_, _*_, _^_, _≤_, _<_}
 use mathlib.Core.Path.{_≡_}
 use mathlib.Core.Logic.{_↔_}
-use mathlib.Core.List.{List, [], _∷_, _++_}
+use mathlib.Core.List.{List, [], _∷_, _++_, map}
+use mathlib.Core.Bool.{false}
 use denote.Ref.{RefT, now}
-use lib.IntN.{ℤ, pos, _+ℤ_, _*ℤ_}
+use lib.IntN.{ℤ, pos, negℤ, _+ℤ_, _*ℤ_}
+use lib.Signed.{_<ℤ_}
 use lib.ListN.{length, getD, take}
-use lib.Ieee.{Float}
-use Rattle.element_sibson.specs.Fraction.{positive, ℚ, _≈_, _+ℚ_, _-ℚ_, _·ℚ_, whole, half}
+use lib.Ieee.{Float, fin}
+use Rattle.element_sibson.specs.Fraction.{Positive, positive, ℚ, _≈_, _≤ℚ_, _<ℚ_, _+ℚ_, _-ℚ_, _·ℚ_, _÷_, whole, half}
 use Rattle.element_sibson.specs.Cubic.{Cell, Point, Jet, Bend, value, jet, bend, _≋_}
 use Rattle.element_sibson.specs.Piece.{Piece, top, right, bottom, left, FourCubics, edge}
 use Rattle.element_sibson.specs.Conditions.{Meets, SameCorners, Equal}
@@ -17,64 +19,22 @@ use Rattle.element_sibson.specs.Sense.{Derivatives, Linearity}
 use Rattle.element_sibson.specs.Theorems.{Has, wholes}
 use Rattle.element_nistir_6718.specs.Source as nistir
 use Rattle.element_readings.specs.Reading.{rounded, _withinℚ_}
-use Rattle.sheet_words.specs.Word.{byteAt}
-use Rattle.sheet_layout.specs.Format.{lineX, lineY, Node, decoded, nodeSize, nodeOffset, grainsPerStep}
+use Rattle.sheet_words.specs.Word.{byteAt, WordLaws}
+use Rattle.sheet_layout.specs.Format.{columns, rows, lineX, lineY, Node, decoded, grainsPerStep}
 use Rattle.sheet_calls.specs.Rules.{Rule, rule, Each, Fails, FirstToHold}
-use Rattle.sheet_calls.specs.Refusals.{otherMark, otherVersion, otherCounts, otherLength, wrongLines, wrongNodes, outside, offMesh, emptyRun, otherKind, noNode, wrongNumbers, Accepted, checkRefusal, LookupInput, lookupRefusal, SettingInput, settingRefusal, ReadingInput, RunInput, runRefusal}
+use Rattle.sheet_calls.specs.Refusals.{otherMark, otherVersion, otherCounts, otherLength, wrongLines, wrongNodes, outside, offMesh, emptyRun, otherKind, noNode, wrongNumbers, Accepted, LookupInput, SettingInput, ReadingInput, RunInput}
 use Rattle.sheet_calls.specs.WellFormed.{Inside, ConditionLaws}
-use Rattle.sheet_calls.specs.Calls.{Part, stretch, lookedUp, withNode}
+use Rattle.sheet_calls.specs.Calls.{Part, stretch}
 use Rattle.sheet_calls.specs.NodeLaws.{ReadsBack}
-use Rattle.surface_answers.specs.Answers.{outcome, quotient}
+use Rattle.surface_answers.specs.Answers.{Outcome, outcome, divisor, quotient}
+use Rattle.surface_answers.specs.AnswerLaws.{AnswerLaws, _is_}
 use Rattle.surface_answers.specs.declared.Answer.{Answer}
 use Rattle.surface_answers.specs.declared.Answer.the-variants as answer
 use Rattle.surface_of_sheet.specs.Place.{cellOf, HasCell, pointAt, place}
 use Rattle.surface_of_sheet.specs.Surface.{nodesOf, setOf}
-use Rattle.surface_of_sheet.specs.Read.{read}
-use Rattle.surface_of_sheet.specs.Run.{filled}
 use Rattle.surface_of_sheet.specs.Touching.{PlaceLaws}
 use Rattle.surface_of_sheet.specs.Theorems.{HalfUnitsFrom}
-use Rattle.light_sheet_c.specs.Values.{over}
-
--- ---- the contracts of the calls: what each gives and leaves follows from its input
-
--- `check` gives n
-pub record Check (s : List ℕ) (n : ℕ) : Type 0 where
-  pub answer : n ≡ checkRefusal s
-
--- `node_refusal` gives n
-pub record NodeRefusal (s : List ℕ) (i j n : ℕ) : Type 0 where
-  pub answer : n ≡ lookupRefusal s i j
-
--- `node` on the slice s hands back r
-pub record NodeCall (s : RefT (List ℕ)) (i j : ℕ) (r : RefT (List ℕ)) : Type 0 where
-  pub part : Part s r (lookedUp (now s) i j)
-
--- `set_node` on the sheet s gives n and leaves t
-pub record SetNode (s : List ℕ) (i j : ℕ) (v : Node) (n : ℕ) (t : List ℕ) : Type 0 where
-  pub answer : n ≡ settingRefusal s i j v
-  pub sheet : t ≡ withNode s i j v
-
--- `read` gives r
-pub record Read (s : List ℕ) (x y kind : ℕ) (r : Answer) : Type 0 where
-  pub answer : outcome r ≡ read s x y kind
-
--- `fill_run` on the row gives n and leaves row′
-pub record FillRun (s : List ℕ) (x y : ℕ) (row : List ℤ) (n : ℕ) (row′ : List ℤ) : Type 0 where
-  pub answer : n ≡ runRefusal s x y (length row)
-  pub levels : row′ ≡ filled s x y row
-
--- the calls for C, of crates/light_sheet_c: four meet the records above, and the two below are theirs alone
-
--- `lvs_node_offset` gives k
-pub record NodeOffset (s : List ℕ) (i j k : ℕ) : Type 0 where
-  pub answer : k ≡ lookedUp s i j .start
-
--- `lvs_read` on a lent array of floats gives n and leaves array′: the number and the values of a reading, these in the first slots
-pub record ReadInto (s : List ℕ) (x y kind : ℕ) (array : List Float) (n : ℕ) (array′ : List Float) : Type 0 where
-  pub reading : Answer
-  pub isRead : Read s x y kind reading
-  pub answer : n ≡ outcome reading .number
-  pub values : array′ ≡ over (outcome reading .values) array
+use Rattle.light_sheet_demands.specs.Contracts.{Check, NodeRefusal, NodeCall, SetNode, Read, FillRun, NodeOffset, ReadInto}
 
 -- ---- demand 1
 
@@ -105,43 +65,61 @@ ofReading = ofSheet (λ u. u .sheet) ++ rule 7 (λ u. outside (u .sheet) (u .x) 
 abbrev pub ofRun : List (Rule RunInput)
 ofRun = ofSheet (λ u. u .sheet) ++ rule 7 (λ u. offMesh (u .sheet) (u .x) (u .y) (u .count)) ∷ rule 8 (λ u. emptyRun (u .count)) ∷ []
 
+-- where the node at column i and row j starts, by 01's layout; it has six bytes
+abbrev pub nodeStart : List ℕ → ℕ → ℕ → ℕ
+nodeStart s i j = 8 + 2 * columns s + 2 * rows s + 6 * (j * columns s + i)
+
 pub record DemandOne : Type 0 where
   -- "The memory a caller lends, sheet or row, comes back with only those places altered that the call is there to write, and after a refusal with none
-  -- altered." `set_node` is there to write the bytes of a node, `fill_run` all slots of the row, and `lvs_read` as many of the array as the kind has values: one,
-  -- two or three. What is lent by `&`, to the other calls and as the sheet of `fill_run` and `lvs_read`, none can alter
+  -- altered." What is lent to be read comes back as it was, whatever the call gives
+  pub keptByCheck : {s t : List ℕ} {n : ℕ} → Check s n t → t ≡ s
+  pub keptByNodeRefusal : {s t : List ℕ} {i j n : ℕ} → NodeRefusal s i j n t → t ≡ s
+  pub keptByNode : {s r : RefT (List ℕ)} {t : List ℕ} {i j : ℕ} → NodeCall s i j r t → t ≡ now s
+  pub keptByRead : {s t : List ℕ} {x y kind : ℕ} {r : Answer} → Read s x y kind r t → t ≡ s
+  pub keptByFillRun : {s t : List ℕ} {x y n : ℕ} {row row′ : List ℤ} → FillRun s x y row n row′ t → t ≡ s
+  pub keptByNodeOffset : {s t : List ℕ} {i j k : ℕ} → NodeOffset s i j k t → t ≡ s
+  pub keptByReadInto : {s t : List ℕ} {x y kind n : ℕ} {array array′ : List Float} → ReadInto s x y kind array n array′ t → t ≡ s
+  -- `set_node` is there to write the six bytes of a node, `fill_run` all slots of the row, and `lvs_read` as many of the array as the kind has values: one, two
+  -- or three
   pub sheetSize : {s t : List ℕ} {i j n : ℕ} {v : Node} → SetNode s i j v n t → length t ≡ length s
-  pub beforeNode : {s t : List ℕ} {i j n : ℕ} {v : Node} → SetNode s i j v n t → (k : ℕ) → k < nodeOffset s i j → byteAt t k ≡ byteAt s k
-  pub afterNode : {s t : List ℕ} {i j n : ℕ} {v : Node} → SetNode s i j v n t → (k : ℕ) → nodeOffset s i j + nodeSize ≤ k → byteAt t k ≡ byteAt s k
+  pub beforeNode : {s t : List ℕ} {i j n : ℕ} {v : Node} → SetNode s i j v n t → (k : ℕ) → k < nodeStart s i j → byteAt t k ≡ byteAt s k
+  pub afterNode : {s t : List ℕ} {i j n : ℕ} {v : Node} → SetNode s i j v n t → (k : ℕ) → nodeStart s i j + 6 ≤ k → byteAt t k ≡ byteAt s k
   pub sheetRefused : {s t : List ℕ} {i j n : ℕ} {v : Node} → SetNode s i j v n t → ¬ (n ≡ 0) → t ≡ s
-  pub rowSize : {s : List ℕ} {x y n : ℕ} {row row′ : List ℤ} → FillRun s x y row n row′ → length row′ ≡ length row
-  pub rowRefused : {s : List ℕ} {x y n : ℕ} {row row′ : List ℤ} → FillRun s x y row n row′ → ¬ (n ≡ 0) → row′ ≡ row
-  pub arraySize : {s : List ℕ} {x y kind n : ℕ} {array array′ : List Float} → ReadInto s x y kind array n array′ → length array′ ≡ length array
-  pub arrayBehind : {s : List ℕ} {x y kind n : ℕ} {array array′ : List Float} → ReadInto s x y kind array n array′ → (k : ℕ) → kind < k → (v : Float) →
+  pub rowSize : {s t : List ℕ} {x y n : ℕ} {row row′ : List ℤ} → FillRun s x y row n row′ t → length row′ ≡ length row
+  pub rowRefused : {s t : List ℕ} {x y n : ℕ} {row row′ : List ℤ} → FillRun s x y row n row′ t → ¬ (n ≡ 0) → row′ ≡ row
+  pub arraySize : {s t : List ℕ} {x y kind n : ℕ} {array array′ : List Float} → ReadInto s x y kind array n array′ t → length array′ ≡ length array
+  pub arrayBehind : {s t : List ℕ} {x y kind n : ℕ} {array array′ : List Float} → ReadInto s x y kind array n array′ t → (k : ℕ) → kind < k → (v : Float) →
       getD array′ k v ≡ getD array k v
-  pub arrayRefused : {s : List ℕ} {x y kind n : ℕ} {array array′ : List Float} → ReadInto s x y kind array n array′ → ¬ (n ≡ 0) → array′ ≡ array
+  pub arrayRefused : {s t : List ℕ} {x y kind n : ℕ} {array array′ : List Float} → ReadInto s x y kind array n array′ t → ¬ (n ≡ 0) → array′ ≡ array
   -- "This holds for all input, with no reading past the lent part, no wrapped sum and no call that fails to end." No public call has a `requires`, and of
   -- every function the gate shows that it reads and writes within bounds, that no sum or product wraps and no cast loses a bit, and that it ends
 
   -- "Each refusal is given when its listed condition is the first in order to hold, and then only."
-  pub check : {s : List ℕ} {n : ℕ} → Check s n → Gives ofCheck s n
-  pub lookup : {s : List ℕ} {i j n : ℕ} → NodeRefusal s i j n → Gives ofLookup (record { sheet = s; column = i; row = j }) n
+  pub check : {s t : List ℕ} {n : ℕ} → Check s n t → Gives ofCheck s n
+  pub lookup : {s t : List ℕ} {i j n : ℕ} → NodeRefusal s i j n t → Gives ofLookup (record { sheet = s; column = i; row = j }) n
   pub setting : {s t : List ℕ} {i j n : ℕ} {v : Node} → SetNode s i j v n t → Gives ofSetting (record { sheet = s; column = i; row = j; numbers = v }) n
-  pub reading : {s : List ℕ} {x y kind : ℕ} {r : Answer} → Read s x y kind r →
+  pub reading : {s t : List ℕ} {x y kind : ℕ} {r : Answer} → Read s x y kind r t →
       Gives ofReading (record { sheet = s; x = x; y = y; kind = kind }) (outcome r .number)
-  pub arrayReading : {s : List ℕ} {x y kind n : ℕ} {array array′ : List Float} → ReadInto s x y kind array n array′ →
+  pub arrayReading : {s t : List ℕ} {x y kind n : ℕ} {array array′ : List Float} → ReadInto s x y kind array n array′ t →
       Gives ofReading (record { sheet = s; x = x; y = y; kind = kind }) n
-  pub run : {s : List ℕ} {x y n : ℕ} {row row′ : List ℤ} → FillRun s x y row n row′ →
+  pub run : {s t : List ℕ} {x y n : ℕ} {row row′ : List ℤ} → FillRun s x y row n row′ t →
       Gives ofRun (record { sheet = s; x = x; y = y; count = length row }) n
-  -- a lookup that its companion says is refused hands back an empty part from the sheet's start; else the node's six bytes, where they lie
-  pub emptyPart : {s r : RefT (List ℕ)} {i j n : ℕ} → NodeCall s i j r → NodeRefusal (now s) i j n → ¬ (n ≡ 0) → Part s r (stretch 0 0)
-  pub nodePart : {s r : RefT (List ℕ)} {i j n : ℕ} → NodeCall s i j r → NodeRefusal (now s) i j n → n ≡ 0 → Part s r (stretch (nodeOffset (now s) i j) nodeSize)
+  -- a reading that is refused is `Refused` with its number: it has no values
+  pub refusedReading : {s t : List ℕ} {x y kind n : ℕ} {r : Answer} → Read s x y kind r t → outcome r .number ≡ n → ¬ (n ≡ 0) → r ≡ answer.Refused n
+  pub noValues : {s t : List ℕ} {x y kind : ℕ} {r : Answer} → Read s x y kind r t → ¬ (outcome r .number ≡ 0) → outcome r .values ≡ []
+  -- a lookup that its companion says is refused hands back a part from the sheet's start that holds nothing; else the node's six bytes, where they lie
+  pub emptyPart : {s r : RefT (List ℕ)} {t t′ : List ℕ} {i j n : ℕ} → NodeCall s i j r t → NodeRefusal (now s) i j n t′ → ¬ (n ≡ 0) →
+      Part s r (stretch 0 0) × (now r ≡ [])
+  pub nodePart : {s r : RefT (List ℕ)} {t t′ : List ℕ} {i j n : ℕ} → NodeCall s i j r t → NodeRefusal (now s) i j n t′ → n ≡ 0 →
+      Part s r (stretch (nodeStart (now s) i j) 6) × (length (now r) ≡ 6)
+  pub nodeBytes : {s r : RefT (List ℕ)} {t t′ : List ℕ} {i j n : ℕ} → NodeCall s i j r t → NodeRefusal (now s) i j n t′ → n ≡ 0 → (k : ℕ) → k < 6 →
+      byteAt (now r) k ≡ byteAt (now s) (nodeStart (now s) i j + k)
   -- in C the part is known by where it starts: 0 exactly where the lookup is refused, for no node starts there
-  pub offset : {s : List ℕ} {i j k n : ℕ} → NodeOffset s i j k → NodeRefusal s i j n → n ≡ 0 → k ≡ nodeOffset s i j
-  pub noOffset : {s : List ℕ} {i j k n : ℕ} → NodeOffset s i j k → NodeRefusal s i j n → (k ≡ 0) ↔ ¬ (n ≡ 0)
-  -- a reading that is refused gives its number and nothing else
-  pub noValues : {s : List ℕ} {x y kind : ℕ} {r : Answer} → Read s x y kind r → ¬ (outcome r .number ≡ 0) → outcome r .values ≡ []
-  -- what each condition says
+  pub offset : {s t t′ : List ℕ} {i j k n : ℕ} → NodeOffset s i j k t → NodeRefusal s i j n t′ → n ≡ 0 → k ≡ nodeStart s i j
+  pub noOffset : {s t t′ : List ℕ} {i j k n : ℕ} → NodeOffset s i j k t → NodeRefusal s i j n t′ → (k ≡ 0) ↔ ¬ (n ≡ 0)
+  -- what each condition says, of the bytes; and which signed number 16 bits are
   pub conditions : ConditionLaws
+  pub words : WordLaws
 
 -- ---- the surface that demands 2 and 3 speak of: `setOf s i j` is the set we read from in the cell in column i and row j
 
@@ -157,24 +135,50 @@ pixelJet s x y = let p = place s x y in cellJet s (p .column) (p .row) (p .piece
 abbrev pub pixelBend : List ℕ → ℕ → ℕ → Bend
 pixelBend s x y = let p = place s x y in bend (cellOf s (p .column) (p .row)) (setOf s (p .column) (p .row) (p .piece)) (pointAt s p)
 
+-- the sheets that demands 2 and 3 speak of, "accepted when none of the conditions 1 to 6 holds"
+abbrev pub AcceptedMeans : Type 0
+AcceptedMeans = (s : List ℕ) → Accepted s ↔ Each (Fails s) ofCheck
+
 -- ---- demand 2
 
+-- what a reading that is not refused gives, by the answer's definition: the number 0, and whole numbers over a divisor, as 64-bit floats
+abbrev pub given : Positive → List ℤ → Outcome
+given d zs = record { number = 0; values = map (quotient d) zs }
+
+-- the float is exactly a whole number over d; where that is 0, it is +0
+pub record Lossless (d : Positive) (v : Float) : Type 0 where
+  pub number : ℤ
+  pub exact : v is whole number ÷ d
+  pub zero : number ≡ pos 0 → v ≡ fin false 0 (pos 0)
+
+-- strictly between −2²⁰ and 2²⁰
+abbrev pub LevelSized : ℤ → Type 0
+LevelSized z = (negℤ (pos (2 ^ 20)) <ℤ z) × (z <ℤ pos (2 ^ 20))
+
 pub record DemandTwo : Type 0 where
+  pub accepted : AcceptedMeans
   -- "Level, tilt and bend at a pixel are the height and the first and second derivatives of the Sibson element of NISTIR 6718 on that pixel's cell and piece,
   -- rounded to the nearest unit by our tie rule." What a reading gives at a pixel of the mesh, over 64, 64 and 4,096, and what a run leaves
-  pub levels : {s : List ℕ} {x y : ℕ} {r : Answer} → Accepted s → Inside s x y → Read s x y 0 r →
-      r ≡ answer.Level (quotient (positive 64 tt) (rounded (pixelJet s x y .height)))
-  pub tilts : {s : List ℕ} {x y : ℕ} {r : Answer} → Accepted s → Inside s x y → Read s x y 1 r →
-      r ≡ answer.Tilt (quotient (positive 64 tt) (rounded (pixelJet s x y .xSlope))) (quotient (positive 64 tt) (rounded (pixelJet s x y .ySlope)))
-  pub bends : {s : List ℕ} {x y : ℕ} {r : Answer} → Accepted s → Inside s x y → Read s x y 2 r →
-      r ≡ answer.Bend (quotient (positive 4096 tt) (rounded (pos 64 ·ℚ pixelBend s x y .xx)))
-      (quotient (positive 4096 tt) (rounded (pos 64 ·ℚ pixelBend s x y .xy)))
-      (quotient (positive 4096 tt) (rounded (pos 64 ·ℚ pixelBend s x y .yy)))
-  pub runs : {s : List ℕ} {x y : ℕ} {row row′ : List ℤ} → FillRun s x y row 0 row′ → (k : ℕ) → k < length row →
+  pub levels : {s t : List ℕ} {x y : ℕ} {r : Answer} → Accepted s → Inside s x y → Read s x y 0 r t →
+      outcome r ≡ given (positive 64 tt) (rounded (pixelJet s x y .height) ∷ [])
+  pub tilts : {s t : List ℕ} {x y : ℕ} {r : Answer} → Accepted s → Inside s x y → Read s x y 1 r t →
+      outcome r ≡ given (positive 64 tt) (rounded (pixelJet s x y .xSlope) ∷ rounded (pixelJet s x y .ySlope) ∷ [])
+  pub bends : {s t : List ℕ} {x y : ℕ} {r : Answer} → Accepted s → Inside s x y → Read s x y 2 r t →
+      outcome r ≡ given (positive 4096 tt)
+      (rounded (pos 64 ·ℚ pixelBend s x y .xx) ∷ rounded (pos 64 ·ℚ pixelBend s x y .xy) ∷ rounded (pos 64 ·ℚ pixelBend s x y .yy) ∷ [])
+  pub runs : {s t : List ℕ} {x y : ℕ} {row row′ : List ℤ} → FillRun s x y row 0 row′ t → (k : ℕ) → k < length row →
       getD row′ k (pos 0) ≡ rounded (pixelJet s (x + k) y .height)
   -- what a reading gives in C: its values, in the first slots of the array, one, two or three
-  pub arrays : {s : List ℕ} {x y kind : ℕ} {array array′ : List Float} (c : ReadInto s x y kind array 0 array′) → length array ≡ 3 →
+  pub arrays : {s t : List ℕ} {x y kind : ℕ} {array array′ : List Float} (c : ReadInto s x y kind array 0 array′ t) → length array ≡ 3 →
       take (suc kind) array′ ≡ outcome (c .reading) .values
+  -- which case of the answer has which number and values
+  pub answers : AnswerLaws
+  -- the division "loses nothing", and 0 is +0
+  pub floats : {s t : List ℕ} {x y kind : ℕ} {r : Answer} → Read s x y kind r t → Each (Lossless (divisor kind)) (outcome r .values)
+  -- "A level lies strictly between −2²⁰ and 2²⁰." That of a reading is 64 times its float
+  pub readLevels : {s t : List ℕ} {x y : ℕ} {r : Answer} → Read s x y 0 r t →
+      Each (λ v. (z : ℤ) → v is whole z ÷ positive 64 tt → LevelSized z) (outcome r .values)
+  pub runLevels : {s t : List ℕ} {x y : ℕ} {row row′ : List ℤ} → FillRun s x y row 0 row′ t → (k : ℕ) → k < length row → LevelSized (getD row′ k (pos 0))
   -- the element of NISTIR 6718: its formulas 105 to 108, put right where 01 says, for the corner numbers of each cell
   pub source : (s : List ℕ) (i j : ℕ) (k : Piece) (P : Point) →
       value (setOf s i j k) P ≈ value (halved (nistir.table k) (cornerNumbers (cellOf s i j) (nodesOf s i j))) (nistir.source k P)
@@ -182,20 +186,26 @@ pub record DemandTwo : Type 0 where
   pub derivatives : Derivatives
   -- that pixel's cell and piece
   pub places : PlaceLaws
-  -- to the nearest unit; a tie goes up
+  -- to the nearest unit
   pub nearest : (x : ℚ) → whole (rounded x) -ℚ x withinℚ half
+  -- "Each is the exact value plus one half, rounded down: a tie goes up." A rounded fraction is the whole number q with q ≤ x + ½ < q + 1
+  pub roundedDown : (x : ℚ) → (whole (rounded x) ≤ℚ x +ℚ half) × (x +ℚ half <ℚ whole (rounded x +ℤ pos 1))
+  pub onlyOne : (x : ℚ) (q : ℤ) → whole q ≤ℚ x +ℚ half → x +ℚ half <ℚ whole (q +ℤ pos 1) → rounded x ≡ q
   pub tie : (x : ℚ) (z : ℤ) → x ≈ whole z +ℚ half → rounded x ≡ z +ℤ pos 1
+  -- equal fractions round alike
+  pub alike : (x y : ℚ) → x ≈ y → rounded x ≡ rounded y
   -- "A node set to new numbers reads back as those numbers." Looked up, and read at its pixel: the height, in grains, and the slopes
   pub readsBack : {s t : List ℕ} {i j : ℕ} {v : Node} → SetNode s i j v 0 t → ReadsBack i j v t
-  pub nodeBack : {s t : List ℕ} {i j : ℕ} {v : Node} {u r : RefT (List ℕ)} → SetNode s i j v 0 t → now u ≡ t → NodeCall u i j r → decoded (now r) ≡ v
-  pub levelBack : {s t : List ℕ} {i j : ℕ} {v : Node} {r : Answer} → SetNode s i j v 0 t → Read t (lineX s i) (lineY s j) 0 r →
-      r ≡ answer.Level (quotient (positive 64 tt) (grainsPerStep *ℤ v .storedHeight))
-  pub tiltBack : {s t : List ℕ} {i j : ℕ} {v : Node} {r : Answer} → SetNode s i j v 0 t → Read t (lineX s i) (lineY s j) 1 r →
-      r ≡ answer.Tilt (quotient (positive 64 tt) (v .slopeX)) (quotient (positive 64 tt) (v .slopeY))
+  pub nodeBack : {s t t′ : List ℕ} {i j : ℕ} {v : Node} {u r : RefT (List ℕ)} → SetNode s i j v 0 t → now u ≡ t → NodeCall u i j r t′ → decoded (now r) ≡ v
+  pub levelBack : {s t t′ : List ℕ} {i j : ℕ} {v : Node} {r : Answer} → SetNode s i j v 0 t → Read t (lineX s i) (lineY s j) 0 r t′ →
+      outcome r ≡ given (positive 64 tt) ((grainsPerStep *ℤ v .storedHeight) ∷ [])
+  pub tiltBack : {s t t′ : List ℕ} {i j : ℕ} {v : Node} {r : Answer} → SetNode s i j v 0 t → Read t (lineX s i) (lineY s j) 1 r t′ →
+      outcome r ≡ given (positive 64 tt) (v .slopeX ∷ v .slopeY ∷ [])
 
 -- ---- demand 3
 
 pub record DemandThree : Type 0 where
+  pub accepted : AcceptedMeans
   -- "Take any cell, whatever its width and height, and any two sets of four cubics over it, whatever their coefficients, each set meeting along the diagonals
   -- in height and both slopes, and each with a cross-edge slope that is linear along all four edges. The two are equal, cubic by cubic, exactly when they have
   -- the same height and slopes at the four corners."
@@ -217,15 +227,15 @@ pub record DemandThree : Type 0 where
       cellJet s i j bottom (edge bottom t) ≋ cellJet s i (suc j) top (edge top t)
   -- "and at every pixel of the mesh each level, tilt and bend lies within half a unit of the exact value of the cubic we read from on the pixel's piece." Of a
   -- reading, and of a run; from every pixel of the mesh to every one to its right, or itself, a run is not refused
-  pub levels : {s : List ℕ} {x y : ℕ} {r : Answer} → Accepted s → Inside s x y → Read s x y 0 r →
+  pub levels : {s t : List ℕ} {x y : ℕ} {r : Answer} → Accepted s → Inside s x y → Read s x y 0 r t →
       HalfUnitsFrom (positive 64 tt) r (pixelJet s x y .height ∷ [])
-  pub tilts : {s : List ℕ} {x y : ℕ} {r : Answer} → Accepted s → Inside s x y → Read s x y 1 r →
+  pub tilts : {s t : List ℕ} {x y : ℕ} {r : Answer} → Accepted s → Inside s x y → Read s x y 1 r t →
       HalfUnitsFrom (positive 64 tt) r (pixelJet s x y .xSlope ∷ pixelJet s x y .ySlope ∷ [])
-  pub bends : {s : List ℕ} {x y : ℕ} {r : Answer} → Accepted s → Inside s x y → Read s x y 2 r →
+  pub bends : {s t : List ℕ} {x y : ℕ} {r : Answer} → Accepted s → Inside s x y → Read s x y 2 r t →
       HalfUnitsFrom (positive 4096 tt) r (pos 64 ·ℚ pixelBend s x y .xx ∷ pos 64 ·ℚ pixelBend s x y .xy ∷ pos 64 ·ℚ pixelBend s x y .yy ∷ [])
-  pub runs : {s : List ℕ} {x y : ℕ} {row row′ : List ℤ} → FillRun s x y row 0 row′ → (k : ℕ) → k < length row →
+  pub runs : {s t : List ℕ} {x y : ℕ} {row row′ : List ℤ} → FillRun s x y row 0 row′ t → (k : ℕ) → k < length row →
       whole (getD row′ k (pos 0)) -ℚ pixelJet s (x + k) y .height withinℚ half
-  pub reached : {s : List ℕ} {x y n : ℕ} {row row′ : List ℤ} (k : ℕ) → Accepted s → Inside s x y → Inside s (x + k) y → length row ≡ suc k →
-      FillRun s x y row n row′ → n ≡ 0
+  pub reached : {s t : List ℕ} {x y n : ℕ} {row row′ : List ℤ} (k : ℕ) → Accepted s → Inside s x y → Inside s (x + k) y → length row ≡ suc k →
+      FillRun s x y row n row′ t → n ≡ 0
   -- the pixel's cell and piece
   pub places : PlaceLaws

@@ -1,22 +1,22 @@
 // The public calls, each with the record that the demands speak of for its contract: whatever a call gives and leaves is what they are about.
 ghost use Rattle.sheet_layout.specs.Format.{node};
-ghost use Rattle.light_sheet_demands.specs.Demands.{Check, NodeRefusal, NodeCall, SetNode, Read, FillRun};
+ghost use Rattle.light_sheet_demands.specs.Contracts.{Check, NodeRefusal, NodeCall, SetNode, Read, FillRun};
 use surface_answers::Answer;
 
 pub fn check(sheet: &[u8]) -> u32
-    ensures { λ r. ⌜ Check (now (sheet .entry)) r ⌝ }
+    ensures { λ r. ⌜ Check (now (sheet .entry)) r (now (sheet .exit)) ⌝ }
 {
     light_sheet::check(sheet)
 }
 
 pub fn node(sheet: &[u8], column: u32, row: u32) -> &[u8]
-    ensures { λ r. ⌜ NodeCall (sheet .entry) column row r ⌝ }
+    ensures { λ r. ⌜ NodeCall (sheet .entry) column row r (now (sheet .exit)) ⌝ }
 {
     light_sheet::node(sheet, column, row)
 }
 
 pub fn node_refusal(sheet: &[u8], column: u32, row: u32) -> u32
-    ensures { λ r. ⌜ NodeRefusal (now (sheet .entry)) column row r ⌝ }
+    ensures { λ r. ⌜ NodeRefusal (now (sheet .entry)) column row r (now (sheet .exit)) ⌝ }
 {
     light_sheet::node_refusal(sheet, column, row)
 }
@@ -35,13 +35,13 @@ pub fn set_node(
 }
 
 pub fn read(sheet: &[u8], x: u32, y: u32, kind: u32) -> Answer
-    ensures { λ r. ⌜ Read (now (sheet .entry)) x y kind r ⌝ }
+    ensures { λ r. ⌜ Read (now (sheet .entry)) x y kind r (now (sheet .exit)) ⌝ }
 {
     light_sheet::read(sheet, x, y, kind)
 }
 
 pub fn fill_run(sheet: &[u8], x: u32, y: u32, levels: &mut [i32]) -> u32
-    ensures { λ r. ⌜ FillRun (now (sheet .entry)) x y (now (levels .entry)) r (now (levels .exit)) ⌝ }
+    ensures { λ r. ⌜ FillRun (now (sheet .entry)) x y (now (levels .entry)) r (now (levels .exit)) (now (sheet .exit)) ⌝ }
 {
     light_sheet::fill_run(sheet, x, y, levels)
 }

@@ -1,21 +1,21 @@
 // The calls for C and Rust, each with the record that the demands speak of for its contract.
 ghost use Rattle.sheet_layout.specs.Format.{node};
-ghost use Rattle.light_sheet_demands.specs.Demands.{Check, NodeRefusal, NodeOffset, SetNode, ReadInto, FillRun};
+ghost use Rattle.light_sheet_demands.specs.Contracts.{Check, NodeRefusal, NodeOffset, SetNode, ReadInto, FillRun};
 
 pub fn check(sheet: &[u8]) -> u32
-    ensures { λ r. ⌜ Check (now (sheet .entry)) r ⌝ }
+    ensures { λ r. ⌜ Check (now (sheet .entry)) r (now (sheet .exit)) ⌝ }
 {
     light_sheet_c::lvs_check(sheet)
 }
 
 pub fn node_refusal(sheet: &[u8], column: u32, row: u32) -> u32
-    ensures { λ r. ⌜ NodeRefusal (now (sheet .entry)) column row r ⌝ }
+    ensures { λ r. ⌜ NodeRefusal (now (sheet .entry)) column row r (now (sheet .exit)) ⌝ }
 {
     light_sheet_c::lvs_node_refusal(sheet, column, row)
 }
 
 pub fn node_offset(sheet: &[u8], column: u32, row: u32) -> usize
-    ensures { λ r. ⌜ NodeOffset (now (sheet .entry)) column row r ⌝ }
+    ensures { λ r. ⌜ NodeOffset (now (sheet .entry)) column row r (now (sheet .exit)) ⌝ }
 {
     light_sheet_c::lvs_node_offset(sheet, column, row)
 }
@@ -34,13 +34,13 @@ pub fn set_node(
 }
 
 pub fn read(sheet: &[u8], x: u32, y: u32, kind: u32, values: &mut [f64; 3]) -> u32
-    ensures { λ r. ⌜ ReadInto (now (sheet .entry)) x y kind (now (values .entry)) r (now (values .exit)) ⌝ }
+    ensures { λ r. ⌜ ReadInto (now (sheet .entry)) x y kind (now (values .entry)) r (now (values .exit)) (now (sheet .exit)) ⌝ }
 {
     light_sheet_c::lvs_read(sheet, x, y, kind, values)
 }
 
 pub fn fill_run(sheet: &[u8], x: u32, y: u32, levels: &mut [i32]) -> u32
-    ensures { λ r. ⌜ FillRun (now (sheet .entry)) x y (now (levels .entry)) r (now (levels .exit)) ⌝ }
+    ensures { λ r. ⌜ FillRun (now (sheet .entry)) x y (now (levels .entry)) r (now (levels .exit)) (now (sheet .exit)) ⌝ }
 {
     light_sheet_c::lvs_fill_run(sheet, x, y, levels)
 }

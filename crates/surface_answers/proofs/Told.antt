@@ -1,6 +1,7 @@
 -- The number and the values tell answers apart: the answer is read back from them. Assumes nothing.
 use Prim.Native.Nat.{ℕ}
 use mathlib.Core.Path.{_≡_, refl, sym, _∙_, ap}
+use mathlib.Core.Logic.{_↔_}
 use mathlib.Core.List.{List, [], _∷_}
 use lib.Ieee.{Float}
 use Rattle.surface_answers.specs.Answers.{outcome}
@@ -21,5 +22,19 @@ read-back (Tilt x y) = refl
 read-back (Bend xx xy yy) = refl
 read-back (Refused n) = refl
 
+told : (r r′ : Answer) → outcome r ≡ outcome r′ → r ≡ r′
+told r r′ e = sym (read-back r) ∙ ap (λ o. answerOf (o .number) (o .values)) e ∙ read-back r′
+
+-- an answer is another exactly when its number and values are
+the-same : (r r′ : Answer) → (outcome r ≡ outcome r′) ↔ (r ≡ r′)
+the-same r r′ = (told r r′, ap outcome)
+
 pub answer-laws : AnswerLaws
-answer-laws = record { told = λ r r′ e. sym (read-back r) ∙ ap (λ o. answerOf (o .number) (o .values)) e ∙ read-back r′ }
+unfolding outcome
+answer-laws = record {
+  told = told;
+  level = λ r v. the-same r (Level v);
+  tilt = λ r x y. the-same r (Tilt x y);
+  bend = λ r xx xy yy. the-same r (Bend xx xy yy);
+  refused = λ r n. the-same r (Refused n);
+}

@@ -1,6 +1,8 @@
 -- That an answer is known by its number and values, and that its floats lose nothing. Assumes nothing.
 use Prim.Native.Nat.{ℕ, _*_}
 use mathlib.Core.Path.{_≡_}
+use mathlib.Core.Logic.{_↔_}
+use mathlib.Core.List.{[], _∷_}
 use mathlib.Core.Bool.{Bool, true, false, cond}
 use lib.IntN.{ℤ, pos, negsuc, negℤ, natAbs}
 use lib.Ieee.{Float, nan, inf, fin, up, down}
@@ -9,10 +11,15 @@ use lib.Ieee.Fits.{down-pos}
 use Rattle.element_sibson.specs.Fraction.{ℚ, _≈_, whole, _·ℚ_, _÷_}
 use Rattle.surface_answers.specs.Answers.{outcome, divisor, quotient, FitsFloat}
 use Rattle.surface_answers.specs.declared.Answer.{Answer}
+use Rattle.surface_answers.specs.declared.Answer.the-variants.{Level, Tilt, Bend, Refused}
 
--- the number and the values tell answers apart
+-- the number and the values tell answers apart; so what is said of them is said of the answer: which case it is, and of what
 pub record AnswerLaws : Type 0 where
   pub told : (r r′ : Answer) → outcome r ≡ outcome r′ → r ≡ r′
+  pub level : (r : Answer) (v : Float) → (outcome r ≡ record { number = 0; values = v ∷ [] }) ↔ (r ≡ Level v)
+  pub tilt : (r : Answer) (x y : Float) → (outcome r ≡ record { number = 0; values = x ∷ y ∷ [] }) ↔ (r ≡ Tilt x y)
+  pub bend : (r : Answer) (xx xy yy : Float) → (outcome r ≡ record { number = 0; values = xx ∷ xy ∷ yy ∷ [] }) ↔ (r ≡ Bend xx xy yy)
+  pub refused : (r : Answer) (n : ℕ) → (outcome r ≡ record { number = n; values = [] }) ↔ (r ≡ Refused n)
 
 -- ---- floats as fractions
 

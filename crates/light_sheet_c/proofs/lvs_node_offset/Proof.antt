@@ -8,13 +8,13 @@ use Rattle.light_sheet_c.proofs.lvs_node_offset.Statement.{statement}
 use Rattle.light_sheet_c.proofs.lvs_node_offset.Tie as tie
 
 returns : tie.Need-returns
-returns c = rw (looked-none _ _ _ (c .before .node-refusal .ensures) (c .if1 .taken)) refl
+returns c = rw (looked-none _ _ _ (c .before .node-refusal .ensures .0) (c .if1 .taken)) (refl, refl)
 
 node-offset-requires : tie.Need-node-offset-requires
-node-offset-requires c κs = let h = lookup-held _ _ _ (sym (c .before .node-refusal .ensures) ∙ c .if1 .left) in (nodes-there _ (h .accepted), h .column, h .row)
+node-offset-requires c κs = let h = lookup-held _ _ _ (sym (c .before .node-refusal .ensures .0) ∙ c .if1 .left) in (nodes-there _ (h .accepted), h .column, h .row)
 
 returns-2 : tie.Need-returns-2
-returns-2 c = rw (looked-found _ _ _ (c .before .before .node-refusal .ensures) (c .before .if1 .left)) (c .node-offset .ensures .0)
+returns-2 c = rw (looked-found _ _ _ (c .before .before .node-refusal .ensures .0) (c .before .if1 .left)) (c .node-offset .ensures .0, refl)
 
 pub lvs-node-offset-spec : {M : Type 1} → statement M
 lvs-node-offset-spec = tie.close (tie.spec (λ c κs. search needs) returns node-offset-requires returns-2)

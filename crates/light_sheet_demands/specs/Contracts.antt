@@ -1,0 +1,63 @@
+-- What each public call gives and leaves, a record for each: the contracts of crates/light_sheet and crates/light_sheet_c as the demands speak of them. In each
+-- record s is the sheet that is lent and t what the call leaves of it. Assumes nothing.
+use Prim.Native.Nat.{ℕ}
+use mathlib.Core.Path.{_≡_}
+use mathlib.Core.List.{List}
+use denote.Ref.{RefT, now}
+use lib.IntN.{ℤ}
+use lib.ListN.{length}
+use lib.Ieee.{Float}
+use Rattle.sheet_layout.specs.Format.{Node}
+use Rattle.sheet_calls.specs.Refusals.{checkRefusal, lookupRefusal, settingRefusal, readingRefusal, runRefusal}
+use Rattle.sheet_calls.specs.Calls.{Part, lookedUp, withNode}
+use Rattle.surface_answers.specs.Answers.{outcome}
+use Rattle.surface_answers.specs.declared.Answer.{Answer}
+use Rattle.surface_of_sheet.specs.Read.{read}
+use Rattle.surface_of_sheet.specs.Run.{filled}
+use Rattle.light_sheet_c.specs.Values.{over}
+
+-- `check` gives n
+pub record Check (s : List ℕ) (n : ℕ) (t : List ℕ) : Type 0 where
+  pub answer : n ≡ checkRefusal s
+  pub sheet : t ≡ s
+
+-- `node_refusal` gives n
+pub record NodeRefusal (s : List ℕ) (i j n : ℕ) (t : List ℕ) : Type 0 where
+  pub answer : n ≡ lookupRefusal s i j
+  pub sheet : t ≡ s
+
+-- `node` on the slice s hands back r
+pub record NodeCall (s : RefT (List ℕ)) (i j : ℕ) (r : RefT (List ℕ)) (t : List ℕ) : Type 0 where
+  pub part : Part s r (lookedUp (now s) i j)
+  pub sheet : t ≡ now s
+
+-- `set_node` gives n
+pub record SetNode (s : List ℕ) (i j : ℕ) (v : Node) (n : ℕ) (t : List ℕ) : Type 0 where
+  pub answer : n ≡ settingRefusal s i j v
+  pub sheet : t ≡ withNode s i j v
+
+-- `read` gives r
+pub record Read (s : List ℕ) (x y kind : ℕ) (r : Answer) (t : List ℕ) : Type 0 where
+  pub answer : outcome r .number ≡ readingRefusal s x y kind
+  pub values : outcome r .values ≡ read s x y kind .values
+  pub sheet : t ≡ s
+
+-- `fill_run` on the row gives n and leaves row′
+pub record FillRun (s : List ℕ) (x y : ℕ) (row : List ℤ) (n : ℕ) (row′ : List ℤ) (t : List ℕ) : Type 0 where
+  pub answer : n ≡ runRefusal s x y (length row)
+  pub levels : row′ ≡ filled s x y row
+  pub sheet : t ≡ s
+
+-- the calls for C: four meet the records above, and the two below are theirs alone
+
+-- `lvs_node_offset` gives k
+pub record NodeOffset (s : List ℕ) (i j k : ℕ) (t : List ℕ) : Type 0 where
+  pub answer : k ≡ lookedUp s i j .start
+  pub sheet : t ≡ s
+
+-- `lvs_read` on a lent array of floats gives n and leaves array′: the number and the values of a reading, these in the first slots
+pub record ReadInto (s : List ℕ) (x y kind : ℕ) (array : List Float) (n : ℕ) (array′ : List Float) (t : List ℕ) : Type 0 where
+  pub reading : Answer
+  pub isRead : Read s x y kind reading t
+  pub answer : n ≡ outcome reading .number
+  pub values : array′ ≡ over (outcome reading .values) array
