@@ -1,71 +1,85 @@
--- The set we read from is the source's formulas. Assumes nothing.
-use mathlib.Core.Path.{_≡_, refl, _∙_, ap}
-use mathlib.Core.List.{List}
+-- The source's formulas, put right, are the set we read from: coefficient by coefficient, then at every point. Assumes nothing.
+use mathlib.Core.Path.{_≡_, refl, sym, _∙_, subst}
+use mathlib.Core.Bool.{Bool}
+use mathlib.Core.List.{List, _∷_, map}
+use lib.Dec.{T}
 use lib.IntN.{ℤ, pos}
 use Rattle.element_sibson.specs.Fraction.{_≈_, positive, complement}
-use Rattle.element_sibson.specs.Cubic.{Point, value}
-use Rattle.element_sibson.specs.Piece.{Piece, top, right, bottom, left}
-use Rattle.element_sibson.specs.Element.{CornerNumbers, inOrder, weights, weighed, halved, transposed, flipped, mirrored, swap, exchanged, onTop, onLeft, sibson}
-use Rattle.element_nistir_6718.specs.Source.{formula, row, table, source, Sources}
-use Rattle.integers.proofs.Polynomial.{Expr, #_, _⊗_}
-use Rattle.integers.proofs.Solve.{_≐_, same-sound, solve}
-use Rattle.integers.proofs.Order.{pos-inj}
-use Rattle.element_sibson.proofs.Quote.{complementₑ, Quotient, evaluated, fractionₑ, fraction}
-use Rattle.element_sibson.proofs.Evaluate.{numerator, cubes, by-numerator, numeratorₑ}
+use Rattle.element_sibson.specs.Cubic.{Point, Cubic, Power, one, r¹, s¹, r², rs, s², r³, r²s, rs², s³, cubicOf, value}
+use Rattle.element_sibson.specs.Piece.{Piece, top, right, bottom, left, number}
+use Rattle.element_sibson.specs.Element.{CornerNumbers, inOrder, weights, weighed, halved, transposed, flipped, mirrored, swap, exchanged, sibson}
+use Rattle.element_nistir_6718.specs.Formulas.{twice, Formulas, printed}
+use Rattle.element_nistir_6718.specs.Corrections.{corrections, replaced, corrected, formula}
+use Rattle.element_nistir_6718.specs.Source.{doubled, table, source, cubics, Sources}
+use Rattle.integers.proofs.Solve.{same, same-sound}
+use Rattle.element_sibson.proofs.Fractions.{≈-refl, ≈-trans}
+use Rattle.element_sibson.proofs.Finite.{every-piece}
+use Rattle.element_sibson.proofs.Turnings.{turnings}
+use Rattle.element_sibson.proofs.Quote.{Cubicₑ, coefficientₑ, transposedₑ, flippedₑ, evaluated}
 use Rattle.element_sibson.proofs.QuoteElement.{halvedₑ, numbersₑ, elementₑ, sibson-is}
 
--- ---- variables: 0 / 1 is r, 2 / 3 is s, from 4 on the twelve numbers
+-- ---- the set that the formulas give, quoted: from variable 4 on the twelve numbers
 
-abbrev rₑ : Quotient
-rₑ = fractionₑ 0
+abbrev given : CornerNumbers → List ℤ
+given n = pos 0 ∷ pos 0 ∷ pos 0 ∷ pos 0 ∷ inOrder n
 
-abbrev sₑ : Quotient
-sₑ = fractionₑ 2
+abbrev oppositeₑ : Cubicₑ → Cubicₑ
+oppositeₑ f = transposedₑ (flippedₑ (transposedₑ (flippedₑ f)))
 
-abbrev given : Point → CornerNumbers → List ℤ
-given P n = fraction (P .r) (fraction (P .s) (inOrder n))
+abbrev formulaₑ : Piece → Cubicₑ
+formulaₑ top = halvedₑ (table top) numbersₑ
+formulaₑ right = oppositeₑ (halvedₑ (table right) numbersₑ)
+formulaₑ bottom = oppositeₑ (halvedₑ (table bottom) numbersₑ)
+formulaₑ left = halvedₑ (table left) numbersₑ
 
-abbrev printedₑ : Piece → Expr
-printedₑ top = numeratorₑ (halvedₑ (table top) numbersₑ) rₑ sₑ
-printedₑ right = numeratorₑ (halvedₑ (table right) numbersₑ) (complementₑ rₑ) (complementₑ sₑ)
-printedₑ bottom = numeratorₑ (halvedₑ (table bottom) numbersₑ) (complementₑ rₑ) (complementₑ sₑ)
-printedₑ left = numeratorₑ (halvedₑ (table left) numbersₑ) rₑ sₑ
+cubics-is : (n : CornerNumbers) (k : Piece) → cubics formula n k ≡ evaluated (given n) (formulaₑ k) (positive 2 tt)
+unfolding inOrder weighed halved transposed flipped mirrored twice printed number corrections replaced corrected formula doubled table cubics
+cubics-is n top = refl
+cubics-is n right = refl
+cubics-is n bottom = refl
+cubics-is n left = refl
 
-same-numerators : (k : Piece) (n : CornerNumbers) (P : Point) → numerator (evaluated (given P n) (elementₑ k) (positive 2 tt)) P ≡ numerator (halved (table k) n) (source k P)
-unfolding numerator inOrder weights weighed halved swap exchanged formula row table source
-same-numerators top n P = same-sound (numeratorₑ (elementₑ top) rₑ sₑ) (printedₑ top) tt (given P n)
-same-numerators right n P = same-sound (numeratorₑ (elementₑ right) rₑ sₑ) (printedₑ right) tt (given P n)
-same-numerators bottom n P = same-sound (numeratorₑ (elementₑ bottom) rₑ sₑ) (printedₑ bottom) tt (given P n)
-same-numerators left n P = same-sound (numeratorₑ (elementₑ left) rₑ sₑ) (printedₑ left) tt (given P n)
+-- ---- its coefficients are those of the set we read from
 
-numerators : (k : Piece) (n : CornerNumbers) (P : Point) → numerator (sibson n k) P ≡ numerator (halved (table k) n) (source k P)
-numerators k n P = ap (λ f. numerator f P) (sibson-is (P .r .numerator) (pos (P .r .denominator .number)) (P .s .numerator) (pos (P .s .denominator .number)) n k)
-    ∙ same-numerators k n P
+abbrev alike : Power → Piece → Bool
+alike p k = same (coefficientₑ (formulaₑ k) p) (coefficientₑ (elementₑ k) p)
 
--- the point and its complement have one denominator
-complement-cubes : (P : Point) → cubes P .number ≡ cubes (record { r = complement (P .r); s = complement (P .s) }) .number
-unfolding cubes
-complement-cubes P = pos-inj (solve 2 (λ p q. p ⊗ p ⊗ p ⊗ (q ⊗ q ⊗ q) ≐ (# 1 ⊗ p) ⊗ (# 1 ⊗ p) ⊗ (# 1 ⊗ p) ⊗ ((# 1 ⊗ q) ⊗ (# 1 ⊗ q) ⊗ (# 1 ⊗ q))) tt
-    (pos (P .r .denominator .number)) (pos (P .s .denominator .number)))
+all-alike : (p : Power) (k : Piece) → T (alike p k)
+unfolding inOrder weights swap exchanged twice printed number corrections replaced corrected formula doubled table
+all-alike one = every-piece (alike one) tt
+all-alike r¹ = every-piece (alike r¹) tt
+all-alike s¹ = every-piece (alike s¹) tt
+all-alike r² = every-piece (alike r²) tt
+all-alike rs = every-piece (alike rs) tt
+all-alike s² = every-piece (alike s²) tt
+all-alike r³ = every-piece (alike r³) tt
+all-alike r²s = every-piece (alike r²s) tt
+all-alike rs² = every-piece (alike rs²) tt
+all-alike s³ = every-piece (alike s³) tt
 
-source-cubes : (k : Piece) (P : Point) → cubes P .number ≡ cubes (source k P) .number
-unfolding source
-source-cubes top P = refl
-source-cubes right P = complement-cubes P
-source-cubes bottom P = complement-cubes P
-source-cubes left P = refl
+pub put-right : (n : CornerNumbers) (k : Piece) → cubics formula n k ≡ sibson n k
+put-right n k = cubics-is n k
+    ∙ (λ i. cubicOf (λ p. same-sound (coefficientₑ (formulaₑ k) p) (coefficientₑ (elementₑ k) p) (all-alike p k) (given n) i) (positive 2 tt))
+    ∙ sym (sibson-is (pos 0) (pos 0) (pos 0) (pos 0) n k)
 
-halves : (k : Piece) (n : CornerNumbers) → sibson n k .divisor .number ≡ 2
-unfolding halved transposed flipped mirrored onTop onLeft sibson
-halves top n = refl
-halves right n = refl
-halves bottom n = refl
-halves left n = refl
+-- ---- and so are its values
+
+-- a cubic at (1 − r, 1 − s)
+opposite : (f : Cubic) (P : Point) → value (mirrored (flipped f)) P ≈ value f (record { r = complement (P .r); s = complement (P .s) })
+opposite f P = let Q : Point = record { r = complement (P .r); s = P .s } in
+    ≈-trans {y = value (flipped f) Q} (turnings .mirroring (flipped f) P) (turnings .flipping f Q)
+
+pub values : (F : Formulas) (n : CornerNumbers) (k : Piece) (P : Point) → value (cubics F n k) P ≈ value (halved (map doubled (F k)) n) (source k P)
+unfolding source cubics
+values F n top P = ≈-refl (value (halved (map doubled (F top)) n) P)
+values F n right P = opposite (halved (map doubled (F right)) n) P
+values F n bottom P = opposite (halved (map doubled (F bottom)) n) P
+values F n left P = ≈-refl (value (halved (map doubled (F left)) n) P)
 
 pieces : (k : Piece) (n : CornerNumbers) (P : Point) → value (sibson n k) P ≈ value (halved (table k) n) (source k P)
-unfolding halved
-pieces k n P = by-numerator (sibson n k) (halved (table k) n) P (source k P) (halves k n) (source-cubes k P) (numerators k n P)
+unfolding table
+pieces k n P = subst (λ f. value f P ≈ value (halved (table k) n) (source k P)) (put-right n k) (values formula n k P)
 
 pub sources : Sources
-unfolding weights formula row table
+unfolding weights twice printed number corrections replaced corrected formula doubled table
 sources = record { weightsAre = refl; pieces = pieces }

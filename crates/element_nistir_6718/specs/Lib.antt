@@ -1,1 +1,4 @@
+pub mod Formulas
+pub mod Corrections
 pub mod Source
+pub mod Misprints
