@@ -12,12 +12,8 @@ use Rattle.surface_of_sheet.specs.Surface.{level, tiltX, tiltY, bendXX, bendXY,
 use Rattle.surface_of_sheet.specs.Read.{numbers, read}
 use Rattle.surface_of_sheet.proofs.Answered.{taken-is, refused-is}
 use Rattle.light_sheet_c.specs.Values.{over}
-use Rattle.light_sheet_demands.specs.Contracts.{Read, ReadInto}
-use Rattle.light_sheet_demands.proofs.Values.{read-number}
-
--- an answer's number and values are those of the reading, and the sheet is as it was
-pub is-read : {s t : List ℕ} {x y kind : ℕ} {r : Answer} → outcome r ≡ read s x y kind → t ≡ s → Read s x y kind r t
-is-read e k = record { answer = ap (λ o. o .number) e ∙ read-number _ _ _ _; values = ap (λ o. o .values) e; sheet = k }
+use Rattle.light_sheet_demands.specs.Contracts.{ReadInto}
+use Rattle.light_sheet_demands.proofs.Values.{is-read}
 
 answering : (s : List ℕ) (x y kind : ℕ) → (r : Answer) × (outcome r ≡ read s x y kind)
 unfolding outcome answered refused numbers

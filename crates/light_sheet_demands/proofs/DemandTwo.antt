@@ -8,6 +8,7 @@ use lib.Ieee.{Float}
 use Rattle.element_sibson.specs.Element.{element}
 use Rattle.element_sibson.proofs.Derivatives.{derivatives}
 use Rattle.element_nistir_6718.proofs.Printed.{sources}
+use Rattle.element_nistir_6718.proofs.Misprinted.{misprints}
 use Rattle.element_readings.proofs.Rounded.{half-unit, rounded-≈}
 use Rattle.sheet_calls.proofs.Setting.{setting-laws}
 use Rattle.surface_answers.specs.Answers.{outcome, answered}
@@ -44,6 +45,7 @@ demand-two = record {
   readLevels = read-level-sized;
   runLevels = run-level-sized;
   source = λ s i j k P. sources .pieces k _ P;
+  misprints = misprints;
   derivatives = derivatives;
   places = place-laws;
   nearest = half-unit .distances;

@@ -2,6 +2,7 @@
 use Prim.Native.Nat.{ℕ}
 use mathlib.Core.Path.{_≡_}
 use mathlib.Core.List.{List}
+use native.Mathlib.Decide.{ℕ-discrete}
 use lib.Dec.{T}
 use lib.IntN.{ℤ}
 use lib.ListN.{length}
@@ -9,8 +10,10 @@ use Rattle.sheet_layout.specs.Format.{Node}
 use Rattle.sheet_calls.specs.Rules.{Rule, firstRefusal}
 use Rattle.sheet_calls.specs.Refusals.{sheetRules, checkRules, checkRefusal, lookupRules, lookupRefusal, settingRules, settingRefusal, readingRules, readingRefusal, runRules, runRefusal}
 use Rattle.sheet_calls.proofs.Rules.{rule-laws, nonzero, numbered}
-use Rattle.surface_answers.specs.Answers.{outcome}
+use Rattle.surface_answers.specs.Answers.{outcome, answered, refused}
 use Rattle.surface_answers.specs.declared.Answer.{Answer}
+use Rattle.surface_of_sheet.specs.Read.{read}
+use Rattle.surface_of_sheet.proofs.Answered.{taken-is, refused-is}
 use Rattle.light_sheet_demands.specs.Contracts.{Check, NodeRefusal, SetNode, Read, FillRun}
 use Rattle.light_sheet_demands.specs.Demands.{Gives, ofCheck, ofLookup, ofSetting, ofReading, ofRun, AcceptedMeans}
 
@@ -49,3 +52,11 @@ accepted-means s = (
   λ a. (a .one, (a .two, (a .three, (a .four, (a .five, (a .six, tt)))))),
   λ h. record { one = h .0; two = h .1 .0; three = h .1 .1 .0; four = h .1 .1 .1 .0; five = h .1 .1 .1 .1 .0; six = h .1 .1 .1 .1 .1 .0 },
 )
+
+-- the number that a reading is refused with, or 0
+pub read-number : (s : List ℕ) (x y kind : ℕ) → read s x y kind .number ≡ readingRefusal s x y kind
+unfolding answered refused
+read-number s x y kind = elim (ℕ-discrete (readingRefusal s x y kind) 0) [
+  | yes e ↦ rw (taken-is s x y kind e, e)
+  | no h ↦ rw (refused-is s x y kind h)
+]

@@ -1,15 +1,13 @@
 -- A reading's floats are exact, a zero is +0, and levels lie strictly between −2²⁰ and 2²⁰. Assumes nothing.
-use Prim.Native.Nat.{ℕ, zero, suc, _+_, _^_, _≤_, _<_}
-use mathlib.Core.Path.{_≡_, sym, _∙_}
+use Prim.Native.Nat.{ℕ, zero, suc, _+_, _^_, _<_}
+use mathlib.Core.Path.{_≡_, sym}
 use mathlib.Core.List.{List, [], _∷_, map}
 use native.Mathlib.Decide.{ℕ-discrete}
 use native.Mathlib.Omega.{arith}
 use lib.Dec.{lit<}
-use lib.Ieee.{Float}
-use lib.IntN.{ℤ, pos, negℤ, natAbs}
+use lib.IntN.{ℤ, pos, natAbs}
 use lib.ListN.{length, getD}
-use lib.Signed.{_<ℤ_}
-use Rattle.integers.proofs.Polynomial.{#_, _⊗_, ⊖_, _⊕_}
+use Rattle.integers.proofs.Polynomial.{#_, _⊗_, ⊖_}
 use Rattle.integers.proofs.Solve.{_≐_, _≼_, _≺_}
 use Rattle.integers.proofs.Deduce.{_·_, _⊨_, deduce}
 use Rattle.integers.proofs.Order.{*ℤ-cancel-r}

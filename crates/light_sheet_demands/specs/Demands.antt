@@ -18,6 +18,7 @@ use Rattle.element_sibson.specs.Element.{cornerNumbers, halved}
 use Rattle.element_sibson.specs.Sense.{Derivatives, Linearity}
 use Rattle.element_sibson.specs.Theorems.{Has, wholes}
 use Rattle.element_nistir_6718.specs.Source as nistir
+use Rattle.element_nistir_6718.specs.Misprints.{Misprints}
 use Rattle.element_readings.specs.Reading.{rounded, _withinℚ_}
 use Rattle.sheet_words.specs.Word.{byteAt, WordLaws}
 use Rattle.sheet_layout.specs.Format.{columns, rows, lineX, lineY, Node, decoded, grainsPerStep}
@@ -182,6 +183,8 @@ pub record DemandTwo : Type 0 where
   -- the element of NISTIR 6718: its formulas 105 to 108, put right where 01 says, for the corner numbers of each cell
   pub source : (s : List ℕ) (i j : ℕ) (k : Piece) (P : Point) →
       value (setOf s i j k) P ≈ value (halved (nistir.table k) (cornerNumbers (cellOf s i j) (nodesOf s i j))) (nistir.source k P)
+  -- the print breaks its own conditions in the four terms that are put right
+  pub misprints : Misprints
   -- slopes and bends are first and second derivatives
   pub derivatives : Derivatives
   -- that pixel's cell and piece

@@ -1,6 +1,6 @@
 -- `light_sheet_demands::calls::read` meets its contract. Assumes nothing.
 use borrow.Author.Needs.{needs}
-use Rattle.light_sheet_demands.proofs.Arrays.{is-read}
+use Rattle.light_sheet_demands.proofs.Values.{is-read}
 use Rattle.light_sheet_demands.proofs.calls.read.Statement.{statement}
 use Rattle.light_sheet_demands.proofs.calls.read.Tie as tie
 
