@@ -5,7 +5,7 @@ use Prim.Native.Nat.{ℕ, _*_, _<_}
 use native.Mathlib.Nat.{mul-pos}
 use lib.Dec.{T, ltb, ltb→lt}
 use lib.IntN.{ℤ, pos, negℤ, _+ℤ_, _*ℤ_}
-use lib.Signed.{_≤ℤ_, leZ}
+use lib.Signed.{_≤ℤ_, _<ℤ_, leZ}
 
 -- a natural above 0: a denominator, a divisor, a width, a height
 pub record Positive : Type 0 where
@@ -25,7 +25,7 @@ pub record ℚ : Type 0 where
   pub numerator : ℤ
   pub denominator : Positive
 
-infix 20 _≈_ _≤ℚ_
+infix 20 _≈_ _≤ℚ_ _<ℚ_
 infixl 60 _+ℚ_ _-ℚ_
 infixl 70 _*ℚ_ _·ℚ_ _÷_
 -- equal as fractions
@@ -38,6 +38,10 @@ pub record _≤ℚ_ (x y : ℚ) : Type 0 where
 -- the same order, as a test
 abbrev pub leℚ : ℚ → ℚ → Bool
 leℚ x y = leZ (x .numerator *ℤ pos (y .denominator .number)) (y .numerator *ℤ pos (x .denominator .number))
+
+-- strictly below
+pub record _<ℚ_ (x y : ℚ) : Type 0 where
+  pub crossed : (x .numerator *ℤ pos (y .denominator .number)) <ℤ (y .numerator *ℤ pos (x .denominator .number))
 
 -- a whole number
 abbrev pub whole : ℤ → ℚ
