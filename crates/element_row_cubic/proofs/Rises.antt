@@ -1,6 +1,6 @@
 -- The differences of the cubic along a row: what the code computes for them, how large they are, and that each adds up with the next to the one an offset
 -- further on. Assumes nothing.
-use mathlib.Core.Path.{_≡_, sym, _∙_, subst}
+use mathlib.Core.Path.{_≡_, refl, sym, _∙_, subst}
 use mathlib.Core.List.{List, [], _∷_}
 use Prim.Native.Nat.{ℕ, _+_, _^_, _≤_}
 use native.Mathlib.Omega.{arith}
@@ -12,7 +12,7 @@ use Rattle.integers.proofs.Bounds.{is-within, within-self, within-mono, within-
 use Rattle.integers.proofs.Polynomial.{Expr, #_, _⊕_, _⊗_, _⊝_}
 use Rattle.integers.proofs.Solve.{_≐_, solve}
 use Rattle.element_row_cubic.specs.Row.{atOffset, reach}
-use Rattle.element_row_cubic.specs.Steps.{rise, differences, stepped, Steps}
+use Rattle.element_row_cubic.specs.Steps.{rise, differences, stepped, StepLaws, Steps}
 use Rattle.element_row_cubic.proofs.Horner.{at-offset-within}
 
 rise-adds : (f : ℕ → ℤ) (a : ℕ) → f a +ℤ rise f a ≡ f (a + 1)
@@ -94,3 +94,7 @@ module _ (p : List ℤ) where
             (within-mono (within-+ (within-* (within-self (pos 2)) quadratic) (within-* (within-* (within-self (pos 6)) leading) next)) (lit≤ tt));
         third = subst (λ z. z within (2 ^ 60)) (third-is a) (within-mono (within-* (within-self (pos 6)) leading) (lit≤ tt));
       }
+
+pub step-laws : StepLaws
+unfolding differences
+step-laws = record { values = λ p a. refl; steps = steps-on }

@@ -1,5 +1,6 @@
 -- The pieces cover the cell, and meet on the half diagonals only. Assumes nothing.
 use mathlib.Core.Path.{refl, sym, subst}
+use mathlib.Core.Logic.{_↔_}
 use mathlib.Core.Bool.{Bool, true, false, not, _&&_, cond}
 use Prim.Native.Nat.{_≤_}
 use native.Mathlib.Omega.{arith}
@@ -116,28 +117,28 @@ lowest P k t = cond-ind (triangle top P) top (cond (triangle right P) right (con
 
 -- ---- where two meet
 
-meeting : (k : Piece) (P : Point) → HalfDiagonal k P → InCell P × T (triangle k P) × T (triangle (next k) P)
+in-both : (k : Piece) (P : Point) → HalfDiagonal k P → InCell P × T (triangle k P) × T (triangle (next k) P)
 unfolding HalfDiagonal next
-meeting top P (e, l, u) =
+in-both top P (e, l, u) =
     let v : half ≤ℚ P .r = ≤-right (≤-left half-complement (≤-complement u)) (≈-sym e) in
     let w : P .s ≤ℚ complement (P .r) = ≤-swap (≤-of-≈ e) in (
       record { fromLeft = ≤-trans zero-half v; toRight = ≤-left e (≤-right (≤-complement l) one-complement); fromTop = l; toBottom = ≤-trans u half-one },
       test top P (≤-trans u v, w),
       test right P (≤-trans u v, ≤-of-≈ (≈-sym e)),
     )
-meeting right P (e, l, u) =
+in-both right P (e, l, u) =
     let v : complement (P .s) ≤ℚ P .s = ≤-trans (≤-right (≤-complement l) (≈-sym half-complement)) l in (
       record { fromLeft = ≤-trans zero-half (≤-right l (≈-sym e)); toRight = ≤-left e u; fromTop = ≤-trans zero-half l; toBottom = u },
       test right P (≤-of-≈ (≈-sym e), ≤-right v (≈-sym e)),
       test bottom P (≤-of-≈ e, ≤-left (≈-complement e) v),
     )
-meeting bottom P (e, l, u) =
+in-both bottom P (e, l, u) =
     let v : P .r ≤ℚ half = ≤-left e (≤-right (≤-complement l) (≈-sym half-complement)) in (
       record { fromLeft = ≤-right (≤-left zero-complement (≤-complement u)) (≈-sym e); toRight = ≤-trans v half-one; fromTop = ≤-trans zero-half l; toBottom = u },
       test bottom P (≤-trans v l, ≤-swap′ (≤-of-≈ (≈-sym e))),
       test left P (≤-trans v l, ≤-of-≈ e),
     )
-meeting left P (e, l, u) =
+in-both left P (e, l, u) =
     let v : P .s ≤ℚ complement (P .s) = ≤-trans u (≤-left half-complement (≤-complement u)) in (
       record { fromLeft = ≤-right l (≈-sym e); toRight = ≤-left e (≤-trans u half-one); fromTop = l; toBottom = ≤-trans u half-one },
       test left P (≤-of-≈ e, ≤-left e v),
@@ -151,6 +152,9 @@ adjacent top P c (a, b) (a′, b′) = (≤-antisym (≤-swap b) b′, c .fromTo
 adjacent right P c (a, b) (a′, b′) = (≤-antisym a′ a, above-half (≤-trans b a′), c .toBottom)
 adjacent bottom P c (a, b) (a′, b′) = (≤-antisym b′ (≤-swap′ b), above-half (≤-trans (≤-swap′ b) a), c .toBottom)
 adjacent left P c (a, b) (a′, b′) = (≤-antisym a a′, c .fromTop, below-half (≤-trans a′ b))
+
+meeting : (k : Piece) (P : Point) → HalfDiagonal k P ↔ (InCell P × T (triangle k P) × T (triangle (next k) P))
+meeting k P = (in-both k P, λ h. adjacent k P (h .0) (inside k P (h .1)) (inside (next k) P (h .2)))
 
 -- opposite pieces share only the centre
 centre : (P : Point) → P .r ≈ P .s → P .r ≈ complement (P .s) → (j : Piece) → HalfDiagonal j P

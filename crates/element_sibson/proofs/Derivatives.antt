@@ -4,7 +4,7 @@ use Prim.Native.Nat.{ℕ, _+_}
 use lib.IntN.{pos}
 use Rattle.element_sibson.specs.Fraction.{Positive, ℚ, _≈_, _+ℚ_, _*ℚ_, _÷_, positive, whole}
 use Rattle.element_sibson.specs.Cubic.{Cell, Point, Cubic, value, byR, byS, jet, bend}
-use Rattle.element_sibson.specs.Sense.{expansion, below, Derivatives}
+use Rattle.element_sibson.specs.Sense.{expansion, rightOf, below, Derivatives}
 use Rattle.integers.proofs.Polynomial.{var, #_, _⊕_, _⊗_}
 use Rattle.integers.proofs.Solve.{_≐_, solve}
 use Rattle.element_sibson.proofs.Fractions.{≈-refl, ≈-sym, ≈-trans, ≈-+, ≈-*, ≈-÷}
@@ -73,13 +73,42 @@ divided n x x′ x″ x‴ h = record {
 next-pixel : (n : Positive) (a : ℕ) → whole (pos a) ÷ n +ℚ whole (pos 1) ÷ n ≈ whole (pos (a + 1)) ÷ n
 next-pixel n a = record { crossed = solve 2 (λ n a. (a ⊗ (# 1 ⊗ n) ⊕ # 1 ⊗ (# 1 ⊗ n)) ⊗ (# 1 ⊗ n) ≐ (a ⊕ # 1) ⊗ (# 1 ⊗ n ⊗ (# 1 ⊗ n))) tt (pos (n .number)) (pos a) }
 
+-- a slope over m along h/n
+slope-along : (m n : Positive) (y x x′ x″ x‴ h : ℚ) → y ≈ expansion x x′ x″ x‴ (h ÷ n) →
+    y ÷ m ≈ expansion (x ÷ m) (x′ ÷ m ÷ n) (x″ ÷ m ÷ n ÷ n) (x‴ ÷ m ÷ n ÷ n ÷ n) h
+slope-along m n y x x′ x″ x‴ h e =
+    ≈-trans {y = expansion x x′ x″ x‴ (h ÷ n) ÷ m} (≈-÷ m e)
+    (≈-trans {y = expansion (x ÷ m) (x′ ÷ m) (x″ ÷ m) (x‴ ÷ m) (h ÷ n)} (divided m x x′ x″ x‴ (h ÷ n)) (scaled n (x ÷ m) (x′ ÷ m) (x″ ÷ m) (x‴ ÷ m) h))
+
 xSlopes-along-y : (C : Cell) (f : Cubic) (P : Point) (h : ℚ) → jet C f (below C P h) .xSlope
-    ≈ expansion (jet C f P .xSlope) (bend C f P .xy) (value (byS (byS (byR f))) P ÷ C .W ÷ C .H ÷ C .H) (value (byS (byS (byS (byR f)))) P ÷ C .W ÷ C .H ÷ C .H ÷ C .H) h
+    ≈ expansion (jet C f P .xSlope) (bend C f P .xy)
+    (value (byS (byS (byR f))) P ÷ C .W ÷ C .H ÷ C .H) (value (byS (byS (byS (byR f)))) P ÷ C .W ÷ C .H ÷ C .H ÷ C .H) h
 unfolding jet bend
-xSlopes-along-y C f P h = let x = value (byR f) P in let x′ = value (byS (byR f)) P in let x″ = value (byS (byS (byR f))) P in let x‴ = value (byS (byS (byS (byR f)))) P in
-    ≈-trans {y = expansion x x′ x″ x‴ (h ÷ C .H) ÷ C .W} (≈-÷ (C .W) (along-s (byR f) P (h ÷ C .H)))
-    (≈-trans {y = expansion (x ÷ C .W) (x′ ÷ C .W) (x″ ÷ C .W) (x‴ ÷ C .W) (h ÷ C .H)} (divided (C .W) x x′ x″ x‴ (h ÷ C .H))
-    (scaled (C .H) (x ÷ C .W) (x′ ÷ C .W) (x″ ÷ C .W) (x‴ ÷ C .W) h))
+xSlopes-along-y C f P h = slope-along (C .W) (C .H) (value (byR f) (below C P h))
+    (value (byR f) P) (value (byS (byR f)) P) (value (byS (byS (byR f))) P) (value (byS (byS (byS (byR f)))) P) h (along-s (byR f) P (h ÷ C .H))
+
+mixed : (f : Cubic) (P : Point) → value (byS (byR f)) P ≈ value (byR (byS f)) P
+unfolding byR byS
+mixed f P = ≈-refl (value (byS (byR f)) P)
+
+-- divisors in the other order
+≈-÷-swap : (m n : Positive) (x : ℚ) → x ÷ m ÷ n ≈ x ÷ n ÷ m
+≈-÷-swap m n x = record {
+  crossed = equal (fractionₑ 2 ÷ₑ var 0 ÷ₑ var 1) (fractionₑ 2 ÷ₑ var 1 ÷ₑ var 0) tt (pos (m .number) ∷ pos (n .number) ∷ fraction x []);
+}
+
+-- the mixed derivative is bend's
+ySlopes-along-x : (C : Cell) (f : Cubic) (P : Point) (h : ℚ) → jet C f (rightOf C P h) .ySlope
+    ≈ expansion (jet C f P .ySlope) (bend C f P .xy)
+    (value (byR (byR (byS f))) P ÷ C .H ÷ C .W ÷ C .W) (value (byR (byR (byR (byS f)))) P ÷ C .H ÷ C .W ÷ C .W ÷ C .W) h
+unfolding jet bend
+ySlopes-along-x C f P h = let w = C .W in let t = C .H in
+    let x = value (byS f) P in let x′ = value (byR (byS f)) P in let x″ = value (byR (byR (byS f))) P in let x‴ = value (byR (byR (byR (byS f)))) P in
+    ≈-trans {y = expansion (x ÷ t) (x′ ÷ t ÷ w) (x″ ÷ t ÷ w ÷ w) (x‴ ÷ t ÷ w ÷ w ÷ w) h}
+    (slope-along t w (value (byS f) (rightOf C P h)) x x′ x″ x‴ h (along-r (byS f) P (h ÷ w)))
+    (≈-expansion h (≈-refl (x ÷ t))
+    (≈-trans {y = x′ ÷ w ÷ t} (≈-÷-swap t w x′) (≈-÷ t (≈-÷ w (≈-sym (mixed f P)))))
+    (≈-refl (x″ ÷ t ÷ w ÷ w)) (≈-refl (x‴ ÷ t ÷ w ÷ w ÷ w)))
 
 pub derivatives : Derivatives
 unfolding jet bend
@@ -91,5 +120,7 @@ derivatives = record {
   heights-along-y = λ C f P h. let w = C .H in let x = value f P in let x′ = value (byS f) P in let x″ = value (byS (byS f)) P in let x‴ = value (byS (byS (byS f))) P in
       ≈-trans {y = expansion x x′ x″ x‴ (h ÷ w)} (along-s f P (h ÷ w)) (scaled w x x′ x″ x‴ h);
   xSlopes-along-y = xSlopes-along-y;
+  ySlopes-along-x = ySlopes-along-x;
+  mixed = mixed;
   pixels = λ C a b. (next-pixel (C .W) a, next-pixel (C .H) b);
 }

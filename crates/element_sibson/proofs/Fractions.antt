@@ -1,18 +1,19 @@
--- Fractions: equality is an equivalence that the operations respect, and the order respects it. Assumes nothing.
+-- Fractions: equality is an equivalence that the operations respect, and the order respects it; the laws. Assumes nothing.
 use mathlib.Core.Path.{_≡_, refl, sym, ap}
+use mathlib.Core.Logic.{_↔_, _⊎_, inl, inr}
 use mathlib.Core.Bool.{not}
-use mathlib.Core.List.{[], _∷_}
-use Prim.Native.Nat.{ℕ}
+use mathlib.Core.List.{List, [], _∷_}
+use Prim.Native.Nat.{ℕ, _*_}
 use native.Mathlib.Omega.{arith}
-use lib.Dec.{T}
+use lib.Dec.{T, lit<}
 use lib.IntN.{ℤ, pos, negℤ, natAbs, _*ℤ_}
-use lib.Signed.{leZ-yes}
-use Rattle.element_sibson.specs.Fraction.{Positive, ℚ, _≈_, _≤ℚ_, _+ℚ_, _-ℚ_, _*ℚ_, _·ℚ_, _÷_, leℚ, whole, half, complement}
+use lib.Signed.{_≤ℤ_, _<ℤ_, leZ-yes, clashℤ}
+use Rattle.element_sibson.specs.Fraction.{Positive, ℚ, _≈_, _≤ℚ_, _<ℚ_, _+ℚ_, _-ℚ_, _*ℚ_, _·ℚ_, _÷_, leℚ, whole, half, complement}
 use Rattle.element_sibson.specs.Sense.{FractionLaws}
 use Rattle.integers.proofs.Polynomial.{var, #_, _⊕_, _⊗_}
-use Rattle.integers.proofs.Solve.{_≐_, _≼_}
+use Rattle.integers.proofs.Solve.{Claim, _≐_, _≼_}
 use Rattle.integers.proofs.Deduce.{_·_, _⊨_, deduce, certified-sound}
-use Rattle.integers.proofs.Order.{*ℤ-cancel-r, ≤ℤ-cancel-r, *ℤ-mono-r, pos-nonneg, ≤ℤ-antisym, ≤ℤ-of-eq, <ℤ→≤ℤ, not-leZ}
+use Rattle.integers.proofs.Order.{*ℤ-cancel-r, ≤ℤ-cancel-r, *ℤ-mono-r, pos-nonneg, ≤ℤ-antisym, ≤ℤ-of-eq, ≤ℤ-or->, <ℤ→≤ℤ, not-leZ}
 use Rattle.element_sibson.proofs.Quote.{Quotient, wholeₑ, complementₑ, _+ₑ_, _-ₑ_, _*ₑ_, _·ₑ_, _÷ₑ_, _≈ₑ_, _≤ₑ_, equal, fractionₑ, fraction}
 
 -- ---- variables: four fractions
@@ -167,6 +168,44 @@ pub ≤-test : {x y : ℚ} → x ≤ℚ y → T (leℚ x y)
 pub ≤-no : (x y : ℚ) → T (not (leℚ x y)) → y ≤ℚ x
 ≤-no x y t = record { crossed = <ℤ→≤ℤ (not-leZ (x .numerator *ℤ pos (y .denominator .number)) (y .numerator *ℤ pos (x .denominator .number)) t) }
 
+-- ---- laws
+
+whole-order : (a b : ℤ) → (whole a ≤ℚ whole b) ↔ (a ≤ℤ b)
+whole-order a b = (λ h. ≤ℤ-cancel-r 1 (lit< tt) (h .crossed), λ h. record { crossed = *ℤ-mono-r (pos-nonneg 1) h })
+
+quotient-order : (x y : ℚ) (n : Positive) → (x ≤ℚ y) ↔ (x ÷ n ≤ℚ y ÷ n)
+quotient-order x y n = (
+  λ h. record { crossed = certified-sound ((# 1 · timesₑ) ∷ []) (xₑ ÷ₑ var 4 ≤ₑ yₑ ÷ₑ var 4) tt given (*ℤ-mono-r (pos-nonneg (n .number)) (h .crossed)) },
+  λ h. record {
+    crossed = ≤ℤ-cancel-r (n .number) (n .above) (certified-sound ((# 1 · (xₑ ÷ₑ var 4 ≤ₑ yₑ ÷ₑ var 4)) ∷ []) timesₑ tt given (h .crossed));
+  },
+)
+  where
+    timesₑ : Claim
+    timesₑ = xₑ .num ⊗ yₑ .den ⊗ var 4 ≼ yₑ .num ⊗ xₑ .den ⊗ var 4
+
+    given : List ℤ
+    given = fraction x (fraction y (pos (n .number) ∷ []))
+
+sum-order : (x y z : ℚ) → x ≤ℚ y → x +ℚ z ≤ℚ y +ℚ z
+sum-order x y z h = record {
+  crossed = certified-sound ((# 1 · (xₑ .num ⊗ yₑ .den ⊗ (zₑ .den ⊗ zₑ .den) ≼ yₑ .num ⊗ xₑ .den ⊗ (zₑ .den ⊗ zₑ .den))) ∷ []) (xₑ +ₑ zₑ ≤ₑ yₑ +ₑ zₑ) tt
+      (fraction x (fraction y (fraction z []))) (*ℤ-mono-r (pos-nonneg (z .denominator .number * z .denominator .number)) (h .crossed));
+}
+
+strict-order : (x y : ℚ) → (x <ℚ y) ↔ (¬ (y ≤ℚ x))
+strict-order x y = (λ h k. clashℤ (h .crossed) (k .crossed), λ n. go n (≤ℤ-or-> a b))
+  where
+    a : ℤ
+    a = y .numerator *ℤ pos (x .denominator .number)
+
+    b : ℤ
+    b = x .numerator *ℤ pos (y .denominator .number)
+
+    go : ¬ (y ≤ℚ x) → (a ≤ℤ b) ⊎ (b <ℤ a) → x <ℚ y
+    go n (inl h) = absurd (n (record { crossed = h }))
+    go n (inr h) = record { crossed = h }
+
 pub fraction-laws : FractionLaws
 fraction-laws = record {
   reflexive = ≈-refl;
@@ -180,6 +219,13 @@ fraction-laws = record {
   distributive = λ x y z. record { crossed = equal (xₑ *ₑ (yₑ +ₑ zₑ)) (xₑ *ₑ yₑ +ₑ xₑ *ₑ zₑ) tt (fraction x (fraction y (fraction z []))) };
   multiples = λ c x. record { crossed = equal (var 2 ·ₑ xₑ) (wholeₑ (var 2) *ₑ xₑ) tt (fraction x (c ∷ [])) };
   quotients = λ x n. record { crossed = equal (xₑ ÷ₑ var 2 *ₑ wholeₑ (var 2)) xₑ tt (fraction x (pos (n .number) ∷ [])) };
+  differences = λ x y. record { crossed = equal (xₑ -ₑ yₑ +ₑ yₑ) xₑ tt (fraction x (fraction y [])) };
+  halves = record { crossed = refl };
   order = λ x y. (λ e. (≤-of-≈ e, ≤-of-≈ (≈-sym e)), λ h. ≤-antisym (h .0) (h .1));
   tests = λ x y. (≤-yes x y, λ h. ≤-test h);
+  transitiveOrder = λ x y z h k. ≤-trans h k;
+  wholeOrder = whole-order;
+  quotientOrder = quotient-order;
+  sumOrder = sum-order;
+  strictOrder = strict-order;
 }

@@ -36,7 +36,9 @@ pub record InCell (P : Point) : Type 0 where
   pub fromTop : whole (pos 0) ≤ℚ P .s
   pub toBottom : P .s ≤ℚ whole (pos 1)
 
--- is a point of the cell in a piece? Borders count
+-- is a point in a piece? Borders count. The bounds are 01's: "Piece 0 has s ≤ r and s ≤ 1−r" and so on; piece 3, there "the rest", has its borders here.
+-- By itself this is a wedge between the two diagonals, which also reaches outside the cell: the cell's own bounds are those of `InCell`, or of a pixel's
+-- offsets in its cell, a ≤ W and b ≤ H
 abbrev pub triangle : Piece → Point → Bool
 triangle top P = leℚ (P .s) (P .r) && leℚ (P .s) (complement (P .r))
 triangle right P = leℚ (P .s) (P .r) && leℚ (complement (P .s)) (P .r)
@@ -47,7 +49,8 @@ triangle left P = leℚ (P .r) (P .s) && leℚ (P .r) (complement (P .s))
 abbrev pub pieceAt : Point → Piece
 pieceAt P = cond (triangle top P) top (cond (triangle right P) right (cond (triangle bottom P) bottom left))
 
--- the half diagonal between a piece and the next: from the corner that both touch to the centre
+-- the half diagonal between a piece and the next: from the corner that both touch to the centre. The source has its line: in (7) for pieces 0 and 1, (6) for 1
+-- and 2, (8) for 2 and 3, (5) for 3 and 0
 unfoldable pub HalfDiagonal : Piece → Point → Type 0
 HalfDiagonal top P = (P .r ≈ complement (P .s)) × (whole (pos 0) ≤ℚ P .s) × (P .s ≤ℚ half)
 HalfDiagonal right P = (P .r ≈ P .s) × (half ≤ℚ P .s) × (P .s ≤ℚ whole (pos 1))

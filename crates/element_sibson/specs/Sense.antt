@@ -4,14 +4,15 @@ use mathlib.Core.Logic.{_↔_}
 use Prim.Native.Nat.{ℕ, _+_, _≤_}
 use lib.Dec.{T}
 use lib.IntN.{ℤ, pos, _+ℤ_, _*ℤ_}
-use Rattle.element_sibson.specs.Fraction.{Positive, ℚ, _≈_, _≤ℚ_, leℚ, _+ℚ_, _*ℚ_, _·ℚ_, _÷_, positive, whole, complement}
+use lib.Signed.{_≤ℤ_}
+use Rattle.element_sibson.specs.Fraction.{Positive, ℚ, _≈_, _≤ℚ_, leℚ, _<ℚ_, _+ℚ_, _*ℚ_, _·ℚ_, _÷_, _-ℚ_, positive, whole, half, complement}
 use Rattle.element_sibson.specs.Cubic.{Cell, Point, pixel, Cubic, _≅_, value, byR, byS, jet, _≋_, bend}
 use Rattle.element_sibson.specs.Piece.{Piece, top, right, bottom, left, number, next, FourCubics, InCell, triangle, pieceAt, HalfDiagonal, edge}
 use Rattle.element_sibson.specs.Conditions.{squareTerm, Smooth}
 use Rattle.element_sibson.specs.Element.{CornerNumbers, transposed, flipped, mirrored, exchanged, topDown, leftRight, sibson}
 
--- fractions: equality is an equivalence that sums and products respect, which are those of whole numbers and distribute; multiples, quotients, order
--- and test are what they are called
+-- fractions: equality is an equivalence that sums and products respect, which are those of whole numbers and distribute; multiples, quotients, differences,
+-- order and test are what they are called
 pub record FractionLaws : Type 0 where
   pub reflexive : (x : ℚ) → x ≈ x
   pub symmetric : (x y : ℚ) → x ≈ y → y ≈ x
@@ -24,8 +25,16 @@ pub record FractionLaws : Type 0 where
   pub distributive : (x y z : ℚ) → x *ℚ (y +ℚ z) ≈ x *ℚ y +ℚ x *ℚ z
   pub multiples : (c : ℤ) (x : ℚ) → c ·ℚ x ≈ whole c *ℚ x
   pub quotients : (x : ℚ) (n : Positive) → x ÷ n *ℚ whole (pos (n .number)) ≈ x
+  pub differences : (x y : ℚ) → x -ℚ y +ℚ y ≈ x
+  pub halves : half +ℚ half ≈ whole (pos 1)
   pub order : (x y : ℚ) → (x ≈ y) ↔ ((x ≤ℚ y) × (y ≤ℚ x))
   pub tests : (x y : ℚ) → T (leℚ x y) ↔ (x ≤ℚ y)
+  pub transitiveOrder : (x y z : ℚ) → x ≤ℚ y → y ≤ℚ z → x ≤ℚ z
+  -- it is the order of whole numbers, and a divisor keeps it, both ways: so a/p ≤ b/q is aq ≤ bp
+  pub wholeOrder : (a b : ℤ) → (whole a ≤ℚ whole b) ↔ (a ≤ℤ b)
+  pub quotientOrder : (x y : ℚ) (n : Positive) → (x ≤ℚ y) ↔ (x ÷ n ≤ℚ y ÷ n)
+  pub sumOrder : (x y z : ℚ) → x ≤ℚ y → x +ℚ z ≤ℚ y +ℚ z
+  pub strictOrder : (x y : ℚ) → (x <ℚ y) ↔ (¬ (y ≤ℚ x))
 
 -- equal cubics are those with the same value at every point
 pub record SameValues : Type 0 where
@@ -43,7 +52,7 @@ abbrev pub below : Cell → Point → ℚ → Point
 below C P h = record { r = P .r; s = P .s +ℚ h ÷ C .H }
 
 -- the derivatives are derivatives: f(r + h, s) is f(r, s) with h times the derivative and h² times a polynomial, for every cubic, so also for a derivative;
--- slopes and bends are so too, per pixel
+-- slopes and bends are so too, per pixel, the mixed one as that of either slope
 pub record Derivatives : Type 0 where
   pub along-r : (f : Cubic) (P : Point) (h : ℚ) →
       value f (record { r = P .r +ℚ h; s = P .s }) ≈ expansion (value f P) (value (byR f) P) (value (byR (byR f)) P) (value (byR (byR (byR f))) P) h
@@ -54,7 +63,13 @@ pub record Derivatives : Type 0 where
   pub heights-along-y : (C : Cell) (f : Cubic) (P : Point) (h : ℚ) → jet C f (below C P h) .height
       ≈ expansion (jet C f P .height) (jet C f P .ySlope) (bend C f P .yy) (value (byS (byS (byS f))) P ÷ C .H ÷ C .H ÷ C .H) h
   pub xSlopes-along-y : (C : Cell) (f : Cubic) (P : Point) (h : ℚ) → jet C f (below C P h) .xSlope
-      ≈ expansion (jet C f P .xSlope) (bend C f P .xy) (value (byS (byS (byR f))) P ÷ C .W ÷ C .H ÷ C .H) (value (byS (byS (byS (byR f)))) P ÷ C .W ÷ C .H ÷ C .H ÷ C .H) h
+      ≈ expansion (jet C f P .xSlope) (bend C f P .xy)
+      (value (byS (byS (byR f))) P ÷ C .W ÷ C .H ÷ C .H) (value (byS (byS (byS (byR f)))) P ÷ C .W ÷ C .H ÷ C .H ÷ C .H) h
+  pub ySlopes-along-x : (C : Cell) (f : Cubic) (P : Point) (h : ℚ) → jet C f (rightOf C P h) .ySlope
+      ≈ expansion (jet C f P .ySlope) (bend C f P .xy)
+      (value (byR (byR (byS f))) P ÷ C .H ÷ C .W ÷ C .W) (value (byR (byR (byR (byS f)))) P ÷ C .H ÷ C .W ÷ C .W ÷ C .W) h
+  -- by r and then by s is by s and then by r
+  pub mixed : (f : Cubic) (P : Point) → value (byS (byR f)) P ≈ value (byR (byS f)) P
   -- one pixel on from a pixel is the next
   pub pixels : (C : Cell) (a b : ℕ) →
       (rightOf C (pixel C a b) (whole (pos 1)) .r ≈ pixel C (a + 1) b .r) × (below C (pixel C a b) (whole (pos 1)) .s ≈ pixel C a (b + 1) .s)
@@ -96,8 +111,8 @@ pub record Covering : Type 0 where
   -- every point is in its piece, which has the lowest number of those that hold it
   pub covers : (P : Point) → T (triangle (pieceAt P) P)
   pub lowest : (P : Point) (k : Piece) → T (triangle k P) → number (pieceAt P) ≤ number k
-  -- a half diagonal is where the triangles meet
-  pub meeting : (k : Piece) (P : Point) → HalfDiagonal k P → InCell P × T (triangle k P) × T (triangle (next k) P)
+  -- a half diagonal is exactly where two neighbouring triangles of the cell meet
+  pub meeting : (k : Piece) (P : Point) → HalfDiagonal k P ↔ (InCell P × T (triangle k P) × T (triangle (next k) P))
   pub shared : (P : Point) → InCell P → (k l : Piece) → T (triangle k P) → T (triangle l P) → Sharing k l P
   -- so the pieces of a smooth set agree wherever they meet
   pub agree : (C : Cell) (S : FourCubics) → Smooth C S → (P : Point) → InCell P → (k l : Piece) → T (triangle k P) → T (triangle l P) → jet C (S k) P ≋ jet C (S l) P
