@@ -1,24 +1,16 @@
 -- A row's text pixel by pixel: what is written when the pixels left of x are done, and that there is room for all. Assumes nothing.
-use Prim.Native.Nat.{ℕ, zero, suc, _+_, _*_, _-_, _≤_, _<_}
+use Prim.Native.Nat.{ℕ, suc, _+_, _*_, _-_, _≤_, _<_}
 use mathlib.Core.Path.{_≡_, refl, _∙_, ap, subst, subst⁻¹}
 use mathlib.Core.List.{List, _++_}
-use native.Mathlib.Nat.{mul-suc}
 use native.Mathlib.Omega.{arith}
-use lib.ListN.{length, length-append}
+use lib.ListN.{length}
 use Rattle.sheet_words.proofs.Replaced.{replaced-length}
 use Rattle.sheet_calls.specs.WellFormed.{Inside}
-use Rattle.surface_of_sheet.proofs.Cells.{sound, last-x-near}
-use Rattle.surface_of_sheet.proofs.Places.{node-inside}
+use Rattle.surface_of_sheet.proofs.Cells.{last-x-near}
 use Rattle.program_text.proofs.Written.{Written, both-written}
 use Rattle.program_listing.specs.Listing.{sequence, firstX, lastX, OnRow, pixelLine, rowText, lineRoom, rowRoom}
-use Rattle.program_listing.proofs.Lengths.{line-fits}
-
--- texts one after the other, of m bytes at most
-sequence-length : (f : ℕ → List ℕ) (m n : ℕ) → ((k : ℕ) → k < n → length (f k) ≤ m) → length (sequence f n) ≤ m * n
-unfolding sequence
-sequence-length f m zero h = omega arith
-sequence-length f m (suc n) h =
-    rw (length-append (sequence f n) (f n), mul-suc m n) (omega (arith, sequence-length f m n (λ k l. h k (omega arith)), h n (omega arith)))
+use Rattle.program_listing.proofs.Lengths.{first-inside, line-fits, line-some}
+use Rattle.program_listing.proofs.Sequence.{sequence-length, sequence-some}
 
 -- the lines of the pixels left of x
 abbrev until : List ℕ → ℕ → ℕ → List ℕ
@@ -42,7 +34,7 @@ module _ (s : List ℕ) (y : ℕ) (row : OnRow s y) where
   on-row x h l = record { left = h; right = l; top = row .top; bottom = row .bottom }
 
   x-in-order : firstX s ≤ lastX s
-  x-in-order = let a = row .accepted in let w = sound s a in node-inside s a 0 0 (omega (arith, w .fewColumns)) (omega (arith, w .fewRows)) .right
+  x-in-order = first-inside s (row .accepted) .right
 
   until-fits : (x : ℕ) → x ≤ lastX s + 1 → length (until s y x) ≤ lineRoom * (x - firstX s)
   until-fits x h =
@@ -52,6 +44,10 @@ module _ (s : List ℕ) (y : ℕ) (row : OnRow s y) where
   pub row-fits : length (rowText s y) ≤ rowRoom
   unfolding rowText
   row-fits = omega (arith, until-fits (lastX s + 1) (omega arith), last-x-near s (row .accepted))
+
+  pub row-some : 0 < length (rowText s y)
+  unfolding rowText
+  row-some = sequence-some (λ k. pixelLine s (firstX s + k) y) (lastX s + 1 - firstX s) (omega (arith, x-in-order)) (λ k l. line-some s (firstX s + k) y)
 
   pub starts : (buffer : List ℕ) → Begun s y buffer (firstX s) buffer 0
   unfolding sequence

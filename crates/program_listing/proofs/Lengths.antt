@@ -1,5 +1,5 @@
--- How long the texts of an accepted sheet are at most: a pixel's line has no more than 64 bytes. Assumes nothing.
-use Prim.Native.Nat.{ℕ, _≤_}
+-- How long a pixel's line is: of an accepted sheet no more than 64 bytes, and never empty. And the first pixel of the mesh. Assumes nothing.
+use Prim.Native.Nat.{ℕ, _≤_, _<_}
 use mathlib.Core.List.{List}
 use native.Mathlib.Nat.{lt-of-lt-of-le}
 use native.Mathlib.Omega.{arith}
@@ -9,11 +9,21 @@ use lib.ListN.{length, length-append}
 use Rattle.sheet_calls.specs.Refusals.{Accepted}
 use Rattle.sheet_calls.specs.WellFormed.{Inside}
 use Rattle.surface_of_sheet.specs.Surface.{level, tiltX, tiltY}
-use Rattle.surface_of_sheet.proofs.Cells.{last-x-near, last-y-near}
+use Rattle.surface_of_sheet.proofs.Cells.{sound, last-x-near, last-y-near}
+use Rattle.surface_of_sheet.proofs.Places.{node-inside}
 use Rattle.surface_of_sheet.proofs.Sizes.{level-below, tilts-below}
 use Rattle.program_text.specs.Text.{blank, newline, field, line}
 use Rattle.program_text.proofs.Lengths.{field-length}
-use Rattle.program_listing.specs.Listing.{pixelLine, lineRoom}
+use Rattle.program_listing.specs.Listing.{firstX, firstY, pixelLine, lineRoom}
+
+-- the first pixel is of the mesh
+pub first-inside : (s : List ℕ) → Accepted s → Inside s (firstX s) (firstY s)
+first-inside s accepted = let w = sound s accepted in node-inside s accepted 0 0 (omega (arith, w .fewColumns)) (omega (arith, w .fewRows))
+
+-- a pixel's line ends in a character of its own
+pub line-some : (s : List ℕ) (x y : ℕ) → 0 < length (pixelLine s x y)
+unfolding pixelLine line field
+line-some s x y = simp length-append (omega arith)
 
 module _ (s : List ℕ) (x y : ℕ) (accepted : Accepted s) (inside : Inside s x y) where
   x-length : length (field (pos x) blank) ≤ 6

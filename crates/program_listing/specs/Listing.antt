@@ -1,8 +1,8 @@
--- What 01's program prints for the bytes that it has read, and the part of it that is made at a time: the text of a row of pixels. Assumes nothing.
+-- What 01's program prints for the bytes that it has read, and the texts that it is made of, which are printed one after the other. Assumes nothing.
 use Prim.Native.Nat.{ℕ, zero, suc, _+_, _-_, _*_, _≤_}
 use mathlib.Core.List.{List, [], _++_}
 use mathlib.Core.Bool.{cond}
-use lib.Dec.{eqb}
+use lib.Dec.{eqb, ltb}
 use Rattle.sheet_layout.specs.Format.{columns, rows, lineX, lineY}
 use Rattle.sheet_calls.specs.Refusals.{Accepted, sheetRefusal}
 use Rattle.surface_of_sheet.specs.Surface.{level, tiltX, tiltY}
@@ -48,7 +48,21 @@ rowText s y = fromTo (firstX s) (lastX s) (λ x. pixelLine s x y)
 unfoldable pub printed : List ℕ → List ℕ
 printed s = let n = sheetRefusal s in cond (eqb n 0) (fromTo (firstY s) (lastY s) (rowText s)) (refusedLine n)
 
--- ---- how long a text can be
+-- ---- the texts that it is made of
+
+-- how many there are: one for each row of an accepted sheet, else one
+unfoldable pub textCount : List ℕ → ℕ
+textCount s = cond (eqb (sheetRefusal s) 0) (lastY s + 1 - firstY s) 1
+
+-- the text that comes after k of them: the next row, or the refusal's line, and at the end nothing
+unfoldable pub nextText : List ℕ → ℕ → List ℕ
+nextText s k = cond (ltb k (textCount s)) (let n = sheetRefusal s in cond (eqb n 0) (rowText s (firstY s + k)) (refusedLine n)) []
+
+-- ---- how long the input and a text can be
+
+-- how many bytes of the input are read at most: one more than the longest sheet has
+abbrev pub inputRoom : ℕ
+inputRoom = 25619
 
 -- no pixel's line has more bytes
 abbrev pub lineRoom : ℕ
