@@ -10,7 +10,6 @@ use lib.IntN.{_*ℤ_}
 use Rattle.element_sibson.specs.Piece.{triangle, Corner, leftTop, rightTop, leftBottom, rightBottom}
 use Rattle.element_sibson.specs.Cubic.{jet, _≋_}
 use Rattle.element_sibson.specs.Theorems.{wholes}
-use Rattle.element_sibson.proofs.Covers.{covering}
 use Rattle.element_readings.specs.CornerWeights.{IsAt}
 use Rattle.element_readings.specs.Reading.{levelOf, tiltXOf, tiltYOf}
 use Rattle.element_readings.proofs.AtCorners.{at-node, at-corners}
@@ -27,7 +26,7 @@ use Rattle.surface_of_sheet.specs.Surface.{nodeNumbers, nodesOf, setOf, 
 use Rattle.surface_of_sheet.specs.Read.{numbers, read}
 use Rattle.surface_of_sheet.specs.Theorems.{AtNodes}
 use Rattle.surface_of_sheet.proofs.Cells.{x-rising, y-rising, width-back, height-back}
-use Rattle.surface_of_sheet.proofs.Places.{place-laws, has-cell, node-inside}
+use Rattle.surface_of_sheet.proofs.Places.{in-piece, place-laws, has-cell, node-inside}
 use Rattle.surface_of_sheet.proofs.Answered.{read-is}
 
 -- ---- a node's pixel is a corner of its cell
@@ -55,11 +54,6 @@ at-corner s i j p (inl (e, a)) (inl (f, b)) = record { corner = leftTop; there =
 at-corner s i j p (inr (e, a)) (inl (f, b)) = record { corner = rightTop; there = rw (a, b) (at-corners .pixels (cellAt s p) .1); node = rw (e, f) refl }
 at-corner s i j p (inl (e, a)) (inr (f, b)) = record { corner = leftBottom; there = rw (a, b) (at-corners .pixels (cellAt s p) .2); node = rw (e, f) refl }
 at-corner s i j p (inr (e, a)) (inr (f, b)) = record { corner = rightBottom; there = rw (a, b) (at-corners .pixels (cellAt s p) .3); node = rw (e, f) refl }
-
--- a place's point lies in its piece
-in-piece : (s : List ℕ) (x y : ℕ) → T (triangle (place s x y .piece) (pointAt s (place s x y)))
-unfolding place
-in-piece s x y = covering .covers (pointAt s (place s x y))
 
 -- ---- readings there
 

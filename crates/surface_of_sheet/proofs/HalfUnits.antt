@@ -1,4 +1,5 @@
 -- What a reading at a pixel of the mesh returns, over its divisor, and what a run leaves lie within half a unit of the exact values. Assumes nothing.
+use lib.IntN.{ℤ}
 use Prim.Native.Nat.{ℕ, zero, suc, _+_}
 use mathlib.Core.Path.{refl, _∙_}
 use mathlib.Core.List.{List, map}
@@ -17,15 +18,20 @@ use Rattle.surface_of_sheet.proofs.Answered.{read-is}
 use Rattle.surface_of_sheet.proofs.Runs.{run-laws}
 use Rattle.surface_of_sheet.proofs.Sizes.{level-below, small-level, small-tilts, small-bends}
 
-from-rounded : (kind : ℕ) (x : ℚ) → FitsFloat (rounded x) → HalfUnitFrom (divisor kind) (quotient (divisor kind) (rounded x)) x
-from-rounded kind x h = record { number = rounded x; float = quotient-laws .exact kind (rounded x) h; near = half-unit .distances x }
+-- a whole number that a float holds, and that lies near x
+near-by : (kind : ℕ) (z : ℤ) (x : ℚ) → FitsFloat z → whole z -ℚ x withinℚ half → HalfUnitFrom (divisor kind) (quotient (divisor kind) z) x
+near-by kind z x h near = record { number = z; float = quotient-laws .exact kind z h; near = near }
+
+-- of a rounded fraction
+abbrev moved : (x : ℚ) → whole (rounded x) -ℚ x withinℚ half
+moved = half-unit .distances
 
 module _ (s : List ℕ) (x y : ℕ) (accepted : Accepted s) (inside : Inside s x y) where
   each : (kind : ℕ) → EachPair (HalfUnitFrom (divisor kind)) (map (quotient (divisor kind)) (numbers s x y kind)) (exact s x y kind)
   unfolding levelOf tiltXOf tiltYOf bendXXOf bendXYOf bendYYOf levelAt tiltXAt tiltYAt bendXXAt bendXYAt bendYYAt level tiltX tiltY bendXX bendXY bendYY numbers exact
-  each zero = (from-rounded 0 _ (small-level s x y accepted inside), tt)
-  each (suc zero) = let (a, b) = small-tilts s x y accepted inside in (from-rounded 1 _ a, (from-rounded 1 _ b, tt))
-  each (suc (suc k)) = let (a, b, c) = small-bends s x y accepted inside in (from-rounded 2 _ a, (from-rounded 2 _ b, (from-rounded 2 _ c, tt)))
+  each zero = (near-by 0 _ _ (small-level s x y accepted inside) (moved _), tt)
+  each (suc zero) = let (a, b) = small-tilts s x y accepted inside in (near-by 1 _ _ a (moved _), (near-by 1 _ _ b (moved _), tt))
+  each (suc (suc k)) = let (a, b, c) = small-bends s x y accepted inside in (near-by 2 _ _ a (moved _), (near-by 2 _ _ b (moved _), (near-by 2 _ _ c (moved _), tt)))
 
 near-level : (s : List ℕ) (x y : ℕ) → whole (level s x y) -ℚ jetAt s (place s x y) .height withinℚ half
 unfolding levelOf jetAt levelAt level

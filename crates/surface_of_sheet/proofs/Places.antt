@@ -56,6 +56,11 @@ module _ {s : List ℕ} {p : Place} {x y : ℕ} (t : Touches s p x y) where
 
 -- ---- the place of a pixel
 
+-- its point lies in its piece
+pub in-piece : (s : List ℕ) (x y : ℕ) → T (triangle (place s x y .piece) (pointAt s (place s x y)))
+unfolding place
+in-piece s x y = covering .covers (pointAt s (place s x y))
+
 module _ (s : List ℕ) (accepted : Accepted s) where
   -- a node's pixel is one of the mesh
   pub node-inside : (i j : ℕ) → i < columns s → j < rows s → Inside s (lineX s i) (lineY s j)
@@ -102,7 +107,7 @@ module _ (s : List ℕ) (accepted : Accepted s) where
       toRight = column-ends;
       down = omega (arith, row-starts);
       toBottom = row-ends;
-      piece = covering .covers (pointAt s (place s x y));
+      piece = in-piece s x y;
     }
 
   module _ {p : Place} {x y : ℕ} (t : Touches s p x y) where

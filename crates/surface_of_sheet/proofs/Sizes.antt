@@ -15,7 +15,7 @@ use Rattle.surface_answers.specs.Answers.{FitsFloat}
 use Rattle.surface_of_sheet.specs.Place.{Place, cellAt, pointAt, columnAt, rowAt, place}
 use Rattle.surface_of_sheet.specs.Surface.{nodesOf, setOf, levelAt, tiltXAt, tiltYAt, bendXXAt, bendXYAt, bendYYAt, level, tiltX, tiltY, bendXX, bendXY, bendYY}
 use Rattle.surface_of_sheet.proofs.Cells.{numbers-within}
-use Rattle.surface_of_sheet.proofs.Places.{has-cell, offset-across, offset-down}
+use Rattle.surface_of_sheet.proofs.Places.{in-piece, has-cell, offset-across, offset-down}
 
 small : (z : ℤ) {n : ℕ} → natAbs z < n → n ≤ 2 ^ 53 → FitsFloat z
 unfolding FitsFloat
@@ -38,7 +38,10 @@ module _ (s : List ℕ) (x y : ℕ) (accepted : Accepted s) (inside : Inside s x
 
   on-piece : On (p .piece) (pointAt s p)
   unfolding place
-  on-piece = bounds .pixels C (p .a) (p .b) (offset-across s accepted x y inside) (offset-down s accepted x y inside)
+  on-piece = record {
+    inCell = bounds .pixels C (p .a) (p .b) (offset-across s accepted x y inside) (offset-down s accepted x y inside) .inCell;
+    inTriangle = in-piece s x y;
+  }
 
   pub level-below : natAbs (level s x y) < 2 ^ 20
   unfolding element setOf level levelAt
