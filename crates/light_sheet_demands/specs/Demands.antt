@@ -1,5 +1,5 @@
--- The customer's three demands, sentence by sentence, of whatever the calls of crates/light_sheet, and those for C, may give and leave by their contracts, which
--- Contracts has as records. Assumes nothing.
+-- The customer's three demands, sentence by sentence, of whatever the calls of crates/light_sheet, and those for C, may give and leave by their contracts. These
+-- are records of Contracts. Assumes nothing.
 use Prim.Native.Nat.{ℕ, suc, _+_, _*_, _^_, _≤_, _<_}
 use mathlib.Core.Path.{_≡_}
 use mathlib.Core.Logic.{_↔_}
