@@ -1,28 +1,28 @@
 // The ten doubled coefficients of a piece in the cell's own r and s, in the order 1, r, s, r², rs, s², r³, r²s, rs², s³.
 ghost use mathlib.Core.Path.{_≡_};
-ghost use Prim.Native.Nat.{_*_};
-ghost use Rattle.integers.specs.Within.{_within_};
-ghost use Rattle.element_sibson.specs.Element.{onTop, onLeft, sibson};
-ghost use Rattle.element_cell.specs.Corners.{jetOf, corners, largest, AllWithin};
+ghost use Prim.Native.Nat.{_<_};
+ghost use Rattle.element_sibson.specs.Cubic.{Power};
+ghost use Rattle.element_sibson.specs.Element.{inOrder, column, weights, weighed, onTop, onLeft, sibson};
+ghost use Rattle.element_cell.specs.Corners.{corners, largest, AllWithin};
 ghost use Rattle.element_cell.specs.Coefficients.{listed};
 ghost use Rattle.element_cell.specs.Pieces.{pieceOf};
-ghost use Rattle.element_pieces.specs.Parts.{TenWithin, JetWithin, added, withCorner};
 use element_cell::Piece;
 
 // The doubled weights of piece 0: a row for each corner number, a column for each power.
 const WEIGHTS: [[i64; 10]; 12] = [
-    [2, 0, 0, -6, 0, -6, 4, 0, 6, 2],
-    [0, 2, 0, -4, 0, -1, 2, 0, 1, 0],
-    [0, 0, 2, 0, -2, -3, 0, 0, 2, 1],
-    [0, 0, 0, 6, 0, 0, -4, 0, -6, 2],
-    [0, 0, 0, -2, 0, 0, 2, 0, 1, 0],
-    [0, 0, 0, 0, 2, -1, 0, 0, -2, 1],
-    [0, 0, 0, 0, 0, 6, 0, 0, -6, -2],
-    [0, 0, 0, 0, 0, 1, 0, 0, -1, 0],
-    [0, 0, 0, 0, 0, -2, 0, 0, 2, 1],
-    [0, 0, 0, 0, 0, 0, 0, 0, 6, -2],
-    [0, 0, 0, 0, 0, 0, 0, 0, -1, 0],
-    [0, 0, 0, 0, 0, 0, 0, 0, -2, 1],
+    // 1 r  s  r² rs s² r³ r²s rs² s³
+    [2, 0, 0, -6, 0, -6, 4, 0, 6, 2], // height 00
+    [0, 2, 0, -4, 0, -1, 2, 0, 1, 0], // x-slope 00
+    [0, 0, 2, 0, -2, -3, 0, 0, 2, 1], // y-slope 00
+    [0, 0, 0, 6, 0, 0, -4, 0, -6, 2], // height 10
+    [0, 0, 0, -2, 0, 0, 2, 0, 1, 0], // x-slope 10
+    [0, 0, 0, 0, 2, -1, 0, 0, -2, 1], // y-slope 10
+    [0, 0, 0, 0, 0, 6, 0, 0, -6, -2], // height 01
+    [0, 0, 0, 0, 0, 1, 0, 0, -1, 0], // x-slope 01
+    [0, 0, 0, 0, 0, -2, 0, 0, 2, 1], // y-slope 01
+    [0, 0, 0, 0, 0, 0, 0, 0, 6, -2], // height 11
+    [0, 0, 0, 0, 0, 0, 0, 0, -1, 0], // x-slope 11
+    [0, 0, 0, 0, 0, 0, 0, 0, -2, 1], // y-slope 11
 ];
 
 // Those of a piece, from the cell's corner numbers: the set we read from.
@@ -38,16 +38,24 @@ pub fn coefficients(n: [[i64; 3]; 4], piece: Piece) -> [i64; 10]
     }
 }
 
-// Piece 0, from the last corner to the first. The table is taken once, its rows by literal indices, so the compiler folds them.
+// Piece 0, a coefficient for each power. The table is lent and the powers are literal, so the compiler folds the weights.
 fn on_top(n: [[i64; 3]; 4]) -> [i64; 10]
     requires { ⌜ AllWithin largest (corners n) ⌝ }
     ensures { λ r. ⌜ r ≡ listed (onTop (corners n)) ⌝ }
 {
-    let t = WEIGHTS;
-    let last = with_corner([0; 10], n[3], t[9], t[10], t[11]);
-    let bottom = with_corner(last, n[2], t[6], t[7], t[8]);
-    let three = with_corner(bottom, n[1], t[3], t[4], t[5]);
-    with_corner(three, n[0], t[0], t[1], t[2])
+    let table = &WEIGHTS;
+    [
+        weighed(table, 0, n),
+        weighed(table, 1, n),
+        weighed(table, 2, n),
+        weighed(table, 3, n),
+        weighed(table, 4, n),
+        weighed(table, 5, n),
+        weighed(table, 6, n),
+        weighed(table, 7, n),
+        weighed(table, 8, n),
+        weighed(table, 9, n),
+    ]
 }
 
 // Piece 3: piece 0 at (s, r).
@@ -58,34 +66,16 @@ fn on_left(n: [[i64; 3]; 4]) -> [i64; 10]
     element_turnings::transposed(on_top(element_corners::exchanged(n)))
 }
 
-// The weights of a corner's height and slopes, each row times its number, added to sums.
-fn with_corner(
-    sums: [i64; 10],
-    corner: [i64; 3],
-    height: [i64; 10],
-    x_slope: [i64; 10],
-    y_slope: [i64; 10],
-) -> [i64; 10]
-    requires { ⌜ TenWithin (54 * largest) sums × JetWithin largest (jetOf corner) × TenWithin 6 height × TenWithin 6 «x_slope» × TenWithin 6 «y_slope» ⌝ }
-    ensures { λ r. ⌜ r ≡ withCorner sums (jetOf corner) height «x_slope» «y_slope» ⌝ }
+// The coefficient of a power: its weights, each times its corner number, added. Corner number i is number i % 3 of corner i / 3.
+fn weighed(table: &[[i64; 10]; 12], power: usize, n: [[i64; 3]; 4]) -> i64
+    requires { ⌜ (now table ≡ weights) × (power < 10) × AllWithin largest (corners n) ⌝ }
+    ensures { λ r. ⌜ ((p : Power) → power ≡ column p → r ≡ weighed weights (inOrder (corners n)) p) ⌝ }
 {
-    added(
-        added(added(sums, y_slope, corner[2]), x_slope, corner[1]),
-        height,
-        corner[0],
-    )
-}
-
-// A row times a number, added to sums.
-fn added(sums: [i64; 10], row: [i64; 10], n: i64) -> [i64; 10]
-    requires { ⌜ TenWithin (66 * largest) sums × TenWithin 6 row × (n within largest) ⌝ }
-    ensures { λ r. ⌜ r ≡ added sums row n ⌝ }
-{
-    let mut r: [i64; 10] = [0; 10];
-    let mut p: usize = 0;
-    while p < 10 {
-        r[p] = row[p] * n + sums[p];
-        p += 1;
+    let mut sum: i64 = 0;
+    let mut i: usize = 0;
+    while i < 12 {
+        sum += table[i][power] * n[i / 3][i % 3];
+        i += 1;
     }
-    r
+    sum
 }

@@ -1,7 +1,11 @@
 -- Demand 3, from the theorems on one cell and on the surface of a sheet. Assumes nothing.
 use mathlib.Core.Path.{sym, _∙_}
 use lib.Dec.{lit≤}
+use Rattle.element_sibson.proofs.Fractions.{fraction-laws}
+use Rattle.element_sibson.proofs.Covers.{covering}
+use Rattle.element_sibson.proofs.Derivatives.{derivatives}
 use Rattle.element_sibson.proofs.Linearity.{linearity}
+use Rattle.element_sibson.proofs.SameValues.{same-values}
 use Rattle.element_sibson.proofs.Unique.{uniqueness}
 use Rattle.surface_of_sheet.specs.Surface.{jetAt}
 use Rattle.surface_of_sheet.specs.Read.{exact}
@@ -18,7 +22,11 @@ unfolding jetAt exact
 demand-three = record {
   accepted = accepted-means;
   unique = uniqueness .exactly;
+  fractions = fraction-laws;
+  covering = covering;
+  derivatives = derivatives;
   linear = linearity;
+  sameValues = same-values;
   widths = the-set .widths;
   heights = the-set .heights;
   meets = λ s a i j h. the-set .fits s a i j h .meets;

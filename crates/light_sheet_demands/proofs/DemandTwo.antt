@@ -6,6 +6,7 @@ use native.Mathlib.Omega.{arith}
 use lib.ListN.{length, take}
 use lib.Ieee.{Float}
 use Rattle.element_sibson.specs.Element.{element}
+use Rattle.element_sibson.proofs.Fractions.{fraction-laws}
 use Rattle.element_sibson.proofs.Derivatives.{derivatives}
 use Rattle.element_nistir_6718.proofs.Printed.{sources}
 use Rattle.element_nistir_6718.proofs.Misprinted.{misprints}
@@ -53,6 +54,7 @@ demand-two = record {
   onlyOne = only-one;
   tie = tie;
   alike = λ x y. rounded-≈;
+  fractions = fraction-laws;
   readsBack = λ c. rw (c .sheet) (setting-laws .readsBack _ _ _ _ (sym (c .answer)));
   nodeBack = λ c e d. rw (d .part .bytes, e, c .sheet) (setting-laws .readsBack _ _ _ _ (sym (c .answer)) .decodes);
   levelBack = λ c d. outcome-is d ∙ rw (c .sheet) (at-nodes .setLevels _ _ _ _ (sym (c .answer)));

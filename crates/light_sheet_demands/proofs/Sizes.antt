@@ -32,7 +32,8 @@ use Rattle.light_sheet_demands.proofs.Readings.{no-values, taken, pixel
 lossless : (kind : ℕ) (z : ℤ) → FitsFloat z → Lossless (divisor kind) (quotient (divisor kind) z)
 lossless kind z h = record { number = z; exact = quotient-laws .exact kind z h; zero = λ e. rw e (quotient-laws .zero kind) }
 
-each-lossless : (s : List ℕ) (x y : ℕ) → Accepted s → Inside s x y → (kind : ℕ) → Each (Lossless (divisor kind)) (map (quotient (divisor kind)) (numbers s x y kind))
+each-lossless : (s : List ℕ) (x y : ℕ) → Accepted s → Inside s x y → (kind : ℕ) →
+    Each (Lossless (divisor kind)) (map (quotient (divisor kind)) (numbers s x y kind))
 unfolding numbers
 each-lossless s x y a i zero = (lossless 0 _ (small-level s x y a i), tt)
 each-lossless s x y a i (suc zero) = let (p, q) = small-tilts s x y a i in (lossless 1 _ p, (lossless 1 _ q, tt))

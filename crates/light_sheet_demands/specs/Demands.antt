@@ -1,5 +1,5 @@
--- The customer's three demands, sentence by sentence, of whatever the calls of crates/light_sheet, and those for C, may give and leave by their contracts, which
--- Contracts has as records. Assumes nothing.
+-- The customer's three demands, sentence by sentence, of whatever the calls of crates/light_sheet, and those for C, may give and leave by their contracts. These
+-- are records of Contracts. Assumes nothing.
 use Prim.Native.Nat.{ℕ, suc, _+_, _*_, _^_, _≤_, _<_}
 use mathlib.Core.Path.{_≡_}
 use mathlib.Core.Logic.{_↔_}
@@ -15,13 +15,13 @@ use Rattle.element_sibson.specs.Cubic.{Cell, Point, Jet, Bend, value, jet, bend
 use Rattle.element_sibson.specs.Piece.{Piece, top, right, bottom, left, FourCubics, edge}
 use Rattle.element_sibson.specs.Conditions.{Meets, SameCorners, Equal}
 use Rattle.element_sibson.specs.Element.{cornerNumbers, halved}
-use Rattle.element_sibson.specs.Sense.{Derivatives, Linearity}
+use Rattle.element_sibson.specs.Sense.{FractionLaws, SameValues, Derivatives, Linearity, Covering}
 use Rattle.element_sibson.specs.Theorems.{Has, wholes}
 use Rattle.element_nistir_6718.specs.Source as nistir
 use Rattle.element_nistir_6718.specs.Misprints.{Misprints}
 use Rattle.element_readings.specs.Reading.{rounded, _withinℚ_}
 use Rattle.sheet_words.specs.Word.{byteAt, WordLaws}
-use Rattle.sheet_layout.specs.Format.{columns, rows, lineX, lineY, Node, decoded, grainsPerStep}
+use Rattle.sheet_layout.specs.Format.{columns, rows, lineX, lineY, Node, decoded}
 use Rattle.sheet_calls.specs.Rules.{Rule, rule, Each, Fails, FirstToHold}
 use Rattle.sheet_calls.specs.Refusals.{otherMark, otherVersion, otherCounts, otherLength, wrongLines, wrongNodes, outside, offMesh, emptyRun, otherKind, noNode, wrongNumbers, Accepted, LookupInput, SettingInput, ReadingInput, RunInput}
 use Rattle.sheet_calls.specs.WellFormed.{Inside, ConditionLaws}
@@ -195,13 +195,14 @@ pub record DemandTwo : Type 0 where
   pub roundedDown : (x : ℚ) → (whole (rounded x) ≤ℚ x +ℚ half) × (x +ℚ half <ℚ whole (rounded x +ℤ pos 1))
   pub onlyOne : (x : ℚ) (q : ℤ) → whole q ≤ℚ x +ℚ half → x +ℚ half <ℚ whole (q +ℤ pos 1) → rounded x ≡ q
   pub tie : (x : ℚ) (z : ℤ) → x ≈ whole z +ℚ half → rounded x ≡ z +ℤ pos 1
-  -- equal fractions round alike
+  -- equal fractions round alike; equality, order and sums of fractions are what they are called
   pub alike : (x y : ℚ) → x ≈ y → rounded x ≡ rounded y
+  pub fractions : FractionLaws
   -- "A node set to new numbers reads back as those numbers." Looked up, and read at its pixel: the height, in grains, and the slopes
   pub readsBack : {s t : List ℕ} {i j : ℕ} {v : Node} → SetNode s i j v 0 t → ReadsBack i j v t
   pub nodeBack : {s t t′ : List ℕ} {i j : ℕ} {v : Node} {u r : RefT (List ℕ)} → SetNode s i j v 0 t → now u ≡ t → NodeCall u i j r t′ → decoded (now r) ≡ v
   pub levelBack : {s t t′ : List ℕ} {i j : ℕ} {v : Node} {r : Answer} → SetNode s i j v 0 t → Read t (lineX s i) (lineY s j) 0 r t′ →
-      outcome r ≡ given (positive 64 tt) ((grainsPerStep *ℤ v .storedHeight) ∷ [])
+      outcome r ≡ given (positive 64 tt) ((pos 64 *ℤ v .storedHeight) ∷ [])
   pub tiltBack : {s t t′ : List ℕ} {i j : ℕ} {v : Node} {r : Answer} → SetNode s i j v 0 t → Read t (lineX s i) (lineY s j) 1 r t′ →
       outcome r ≡ given (positive 64 tt) (v .slopeX ∷ v .slopeY ∷ [])
 
@@ -213,8 +214,13 @@ pub record DemandThree : Type 0 where
   -- in height and both slopes, and each with a cross-edge slope that is linear along all four edges. The two are equal, cubic by cubic, exactly when they have
   -- the same height and slopes at the four corners."
   pub unique : (C : Cell) (S S′ : FourCubics) → Meets C S → Meets C S′ → (Equal S S′ ↔ SameCorners C S S′)
-  -- linear: no square term is a straight line at all points of the edge
+  -- these words: sums, quotients and order of fractions; the pieces and the half diagonals where they meet; slopes, which are derivatives; linear, which is a
+  -- straight line at all points of the edge; and equal, which is the same value at every point
+  pub fractions : FractionLaws
+  pub covering : Covering
+  pub derivatives : Derivatives
   pub linear : Linearity
+  pub sameValues : SameValues
   -- "On every accepted sheet the set we read from in each cell is the one such set that has the nodes' numbers at the corners;" The
   -- cell is as wide and high as its lines are apart
   pub widths : (s : List ℕ) → Accepted s → (i j : ℕ) → HasCell s i j → lineX s i + cellOf s i j .W .number ≡ lineX s (suc i)

@@ -1,8 +1,8 @@
 -- What a reading at a pixel of the mesh returns, over its divisor, and what a run leaves lie within half a unit of the exact values. Assumes nothing.
-use lib.IntN.{ℤ}
 use Prim.Native.Nat.{ℕ, zero, suc, _+_}
 use mathlib.Core.Path.{refl, _∙_}
 use mathlib.Core.List.{List, map}
+use lib.IntN.{ℤ}
 use Rattle.element_sibson.specs.Fraction.{ℚ, whole, half, _-ℚ_}
 use Rattle.element_readings.specs.Reading.{levelOf, tiltXOf, tiltYOf, bendXXOf, bendXYOf, bendYYOf, rounded, _withinℚ_}
 use Rattle.element_readings.proofs.Rounded.{half-unit}
