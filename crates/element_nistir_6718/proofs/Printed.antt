@@ -10,7 +10,7 @@ use Rattle.element_sibson.specs.Piece.{Piece, top, right, bottom, left, number}
 use Rattle.element_sibson.specs.Element.{CornerNumbers, inOrder, weights, weighed, halved, transposed, flipped, mirrored, swap, exchanged, sibson}
 use Rattle.element_nistir_6718.specs.Formulas.{twice, Formulas, printed}
 use Rattle.element_nistir_6718.specs.Corrections.{corrections, replaced, corrected, formula}
-use Rattle.element_nistir_6718.specs.Source.{doubled, table, source, cubics, Sources}
+use Rattle.element_nistir_6718.specs.Source.{doubled, table, takenAt, cubics, Sources}
 use Rattle.integers.proofs.Solve.{same, same-sound}
 use Rattle.element_sibson.proofs.Fractions.{≈-refl, ≈-trans}
 use Rattle.element_sibson.proofs.Finite.{every-piece}
@@ -69,16 +69,16 @@ opposite : (f : Cubic) (P : Point) → value (mirrored (flipped f)) P ≈ value 
 opposite f P = let Q : Point = record { r = complement (P .r); s = P .s } in
     ≈-trans {y = value (flipped f) Q} (turnings .mirroring (flipped f) P) (turnings .flipping f Q)
 
-pub values : (F : Formulas) (n : CornerNumbers) (k : Piece) (P : Point) → value (cubics F n k) P ≈ value (halved (map doubled (F k)) n) (source k P)
-unfolding source cubics
+pub values : (F : Formulas) (n : CornerNumbers) (k : Piece) (P : Point) → value (cubics F n k) P ≈ value (halved (map doubled (F k)) n) (takenAt k P)
+unfolding takenAt cubics
 values F n top P = ≈-refl (value (halved (map doubled (F top)) n) P)
 values F n right P = opposite (halved (map doubled (F right)) n) P
 values F n bottom P = opposite (halved (map doubled (F bottom)) n) P
 values F n left P = ≈-refl (value (halved (map doubled (F left)) n) P)
 
-pieces : (k : Piece) (n : CornerNumbers) (P : Point) → value (sibson n k) P ≈ value (halved (table k) n) (source k P)
+pieces : (k : Piece) (n : CornerNumbers) (P : Point) → value (sibson n k) P ≈ value (halved (table k) n) (takenAt k P)
 unfolding table
-pieces k n P = subst (λ f. value f P ≈ value (halved (table k) n) (source k P)) (put-right n k) (values formula n k P)
+pieces k n P = subst (λ f. value f P ≈ value (halved (table k) n) (takenAt k P)) (put-right n k) (values formula n k P)
 
 pub sources : Sources
 unfolding weights twice printed number corrections replaced corrected formula doubled table

@@ -11,7 +11,7 @@ use Rattle.element_sibson.specs.Conditions.{Meets}
 use Rattle.element_sibson.specs.Element.{CornerNumbers, +_, halved, sibson}
 use Rattle.element_nistir_6718.specs.Formulas.{Formulas, printed}
 use Rattle.element_nistir_6718.specs.Corrections.{Row, height, xSlope, ySlope, index, Correction, corrections, termAt, formula, allBut}
-use Rattle.element_nistir_6718.specs.Source.{doubled, source, cubics}
+use Rattle.element_nistir_6718.specs.Source.{doubled, takenAt, cubics}
 
 -- the corner numbers that are 0 but for one, which is 1
 abbrev pub oneAt : Row → Row → ℤ
@@ -39,7 +39,7 @@ pub record Misprints : Type 0 where
   -- what a correction takes for printed is printed at its place
   pub fit : map (λ c. termAt c printed) corrections ≡ map (λ c. c .asPrinted ∷ []) corrections
   -- the set's value at a point is the formula's, where the source takes it
-  pub values : (F : Formulas) (n : CornerNumbers) (k : Piece) (P : Point) → value (cubics F n k) P ≈ value (halved (map doubled (F k)) n) (source k P)
+  pub values : (F : Formulas) (n : CornerNumbers) (k : Piece) (P : Point) → value (cubics F n k) P ≈ value (halved (map doubled (F k)) n) (takenAt k P)
   -- put right, the formulas give the set we read from, which meets the conditions
   pub putRight : (n : CornerNumbers) (k : Piece) → cubics formula n k ≡ sibson n k
   -- put right but for any one of the four terms, they break the conditions

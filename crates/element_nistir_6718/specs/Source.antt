@@ -23,11 +23,11 @@ unfoldable pub table : Piece → List (List ℤ)
 table k = map doubled (formula k)
 
 -- the point that a formula's powers are taken at: (1 − r, 1 − s) in 106 and 107
-unfoldable pub source : Piece → Point → Point
-source top P = P
-source right P = record { r = complement (P .r); s = complement (P .s) }
-source bottom P = record { r = complement (P .r); s = complement (P .s) }
-source left P = P
+unfoldable pub takenAt : Piece → Point → Point
+takenAt top P = P
+takenAt right P = record { r = complement (P .r); s = complement (P .s) }
+takenAt bottom P = record { r = complement (P .r); s = complement (P .s) }
+takenAt left P = P
 
 -- the set of four cubics, in the cell's own r and s, that formulas give for twelve corner numbers: those of 106 and 107 are taken at (1 − r, 1 − s)
 unfoldable pub cubics : Formulas → CornerNumbers → FourCubics
@@ -40,4 +40,4 @@ pub record Sources : Type 0 where
   -- 01's table is formula 105
   pub weightsAre : weights ≡ table top
   -- the set we read from is formulas 105 to 108, put right, at every point
-  pub pieces : (k : Piece) (n : CornerNumbers) (P : Point) → value (sibson n k) P ≈ value (halved (table k) n) (source k P)
+  pub pieces : (k : Piece) (n : CornerNumbers) (P : Point) → value (sibson n k) P ≈ value (halved (table k) n) (takenAt k P)

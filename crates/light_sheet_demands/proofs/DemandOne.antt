@@ -44,7 +44,7 @@ demand-one = record {
       (subst (Part _ _) (lookup-laws .refused _ _ _ (λ e. h (d .answer ∙ e))) (c .part), c .part .bytes ∙ lookup-laws .none _ _ _ (λ e. h (d .answer ∙ e)));
   nodePart = λ c d e.
       (subst (Part _ _) (lookup-laws .found _ _ _ (sym (d .answer) ∙ e)) (c .part), ap length (c .part .bytes) ∙ lookup-laws .six _ _ _ (sym (d .answer) ∙ e));
-  nodeBytes = λ c d e k l. rw (c .part .bytes) (lookup-laws .each _ _ _ (sym (d .answer) ∙ e) k l);
+  eachByte = λ c d e k l. rw (c .part .bytes) (lookup-laws .each _ _ _ (sym (d .answer) ∙ e) k l);
   offset = λ c d e. c .answer ∙ ap (λ p. p .start) (lookup-laws .found _ _ _ (sym (d .answer) ∙ e));
   noOffset = λ c d. (
     λ z e. omega (arith, sym z ∙ c .answer ∙ ap (λ p. p .start) (lookup-laws .found _ _ _ (sym (d .answer) ∙ e))),

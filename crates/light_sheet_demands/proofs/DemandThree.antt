@@ -15,7 +15,7 @@ use Rattle.surface_of_sheet.proofs.Runs.{run-laws}
 use Rattle.surface_of_sheet.proofs.HalfUnits.{half-units}
 use Rattle.light_sheet_demands.specs.Demands.{DemandThree}
 use Rattle.light_sheet_demands.proofs.Refusals.{accepted-means}
-use Rattle.light_sheet_demands.proofs.Values.{outcome-is}
+use Rattle.light_sheet_demands.proofs.Values.{both-are}
 
 pub demand-three : DemandThree
 unfolding jetAt exact
@@ -34,9 +34,9 @@ demand-three = record {
   only = λ s a i j h S m n. the-set .only s a i j h S (record { meets = m; nodes = n });
   sideBySide = shared-edges .sideBySide;
   oneAboveTheOther = shared-edges .oneAboveTheOther;
-  levels = λ a i c. half-units .returned _ _ _ 0 a i (lit≤ tt) _ (outcome-is c);
-  tilts = λ a i c. half-units .returned _ _ _ 1 a i (lit≤ tt) _ (outcome-is c);
-  bends = λ a i c. half-units .returned _ _ _ 2 a i (lit≤ tt) _ (outcome-is c);
+  levels = λ a i c. half-units .returned _ _ _ 0 a i (lit≤ tt) _ (both-are _ _ _ _ (c .answer) (c .values));
+  tilts = λ a i c. half-units .returned _ _ _ 1 a i (lit≤ tt) _ (both-are _ _ _ _ (c .answer) (c .values));
+  bends = λ a i c. half-units .returned _ _ _ 2 a i (lit≤ tt) _ (both-are _ _ _ _ (c .answer) (c .values));
   places = place-laws;
   runs = λ c k l. rw (c .levels) (half-units .runs _ _ _ _ (sym (c .answer)) k l);
   reached = λ k a i j e c. c .answer ∙ rw e (run-laws .taken _ _ _ k a i j);

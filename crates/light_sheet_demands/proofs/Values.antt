@@ -21,7 +21,7 @@ use Rattle.light_sheet_demands.specs.Demands.{pixelJet, pixelBend, given
 use Rattle.light_sheet_demands.proofs.Refusals.{read-number}
 
 -- what has a reading's number and values is what it gives
-both-are : (s : List ℕ) (x y kind : ℕ) {o : Outcome} → o .number ≡ readingRefusal s x y kind → o .values ≡ read s x y kind .values → o ≡ read s x y kind
+pub both-are : (s : List ℕ) (x y kind : ℕ) {o : Outcome} → o .number ≡ readingRefusal s x y kind → o .values ≡ read s x y kind .values → o ≡ read s x y kind
 both-are s x y kind e v = λ t. record { number = (e ∙ sym (read-number s x y kind)) t; values = v t }
 
 -- so at a pixel of the mesh

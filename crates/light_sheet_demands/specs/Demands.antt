@@ -113,7 +113,7 @@ pub record DemandOne : Type 0 where
       Part s r (stretch 0 0) × (now r ≡ [])
   pub nodePart : {s r : RefT (List ℕ)} {t t′ : List ℕ} {i j n : ℕ} → NodeCall s i j r t → NodeRefusal (now s) i j n t′ → n ≡ 0 →
       Part s r (stretch (nodeStart (now s) i j) 6) × (length (now r) ≡ 6)
-  pub nodeBytes : {s r : RefT (List ℕ)} {t t′ : List ℕ} {i j n : ℕ} → NodeCall s i j r t → NodeRefusal (now s) i j n t′ → n ≡ 0 → (k : ℕ) → k < 6 →
+  pub eachByte : {s r : RefT (List ℕ)} {t t′ : List ℕ} {i j n : ℕ} → NodeCall s i j r t → NodeRefusal (now s) i j n t′ → n ≡ 0 → (k : ℕ) → k < 6 →
       byteAt (now r) k ≡ byteAt (now s) (nodeStart (now s) i j + k)
   -- in C the part is known by where it starts: 0 exactly where the lookup is refused, for no node starts there
   pub offset : {s t t′ : List ℕ} {i j k n : ℕ} → NodeOffset s i j k t → NodeRefusal s i j n t′ → n ≡ 0 → k ≡ nodeStart s i j
@@ -182,7 +182,7 @@ pub record DemandTwo : Type 0 where
   pub runLevels : {s t : List ℕ} {x y : ℕ} {row row′ : List ℤ} → FillRun s x y row 0 row′ t → (k : ℕ) → k < length row → LevelSized (getD row′ k (pos 0))
   -- the element of NISTIR 6718: its formulas 105 to 108, put right where 01 says, for the corner numbers of each cell
   pub source : (s : List ℕ) (i j : ℕ) (k : Piece) (P : Point) →
-      value (setOf s i j k) P ≈ value (halved (nistir.table k) (cornerNumbers (cellOf s i j) (nodesOf s i j))) (nistir.source k P)
+      value (setOf s i j k) P ≈ value (halved (nistir.table k) (cornerNumbers (cellOf s i j) (nodesOf s i j))) (nistir.takenAt k P)
   -- the print breaks its own conditions in the four terms that are put right
   pub misprints : Misprints
   -- slopes and bends are first and second derivatives
