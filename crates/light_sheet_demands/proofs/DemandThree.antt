@@ -1,5 +1,5 @@
 -- Demand 3, from the theorems on one cell and on the surface of a sheet. Assumes nothing.
-use mathlib.Core.Path.{sym, _∙_}
+use mathlib.Core.Path.{refl, sym, _∙_}
 use lib.Dec.{lit≤}
 use Rattle.element_sibson.proofs.Fractions.{fraction-laws}
 use Rattle.element_sibson.proofs.Covers.{covering}
@@ -7,7 +7,8 @@ use Rattle.element_sibson.proofs.Derivatives.{derivatives}
 use Rattle.element_sibson.proofs.Linearity.{linearity}
 use Rattle.element_sibson.proofs.SameValues.{same-values}
 use Rattle.element_sibson.proofs.Unique.{uniqueness}
-use Rattle.surface_of_sheet.specs.Surface.{jetAt}
+use Rattle.sheet_layout.specs.Format.{heightAt, slopeXAt, slopeYAt}
+use Rattle.surface_of_sheet.specs.Surface.{nodeNumbers, nodesOf, jetAt}
 use Rattle.surface_of_sheet.specs.Read.{exact}
 use Rattle.surface_of_sheet.proofs.Sets.{the-set, shared-edges}
 use Rattle.surface_of_sheet.proofs.Places.{place-laws}
@@ -18,7 +19,7 @@ use Rattle.light_sheet_demands.proofs.Refusals.{accepted-means}
 use Rattle.light_sheet_demands.proofs.Values.{both-are}
 
 pub demand-three : DemandThree
-unfolding jetAt exact
+unfolding heightAt slopeXAt slopeYAt nodesOf jetAt exact nodeNumbers
 demand-three = record {
   accepted = accepted-means;
   unique = uniqueness .exactly;
@@ -29,6 +30,7 @@ demand-three = record {
   sameValues = same-values;
   widths = the-set .widths;
   heights = the-set .heights;
+  corners = λ s i j. (refl, refl, refl, refl);
   meets = λ s a i j h. the-set .fits s a i j h .meets;
   nodes = λ s a i j h. the-set .fits s a i j h .nodes;
   only = λ s a i j h S m n. the-set .only s a i j h S (record { meets = m; nodes = n });

@@ -12,7 +12,7 @@ use lib.ListN.{length, getD, take}
 use lib.Ieee.{Float, fin}
 use Rattle.element_sibson.specs.Fraction.{Positive, positive, ℚ, _≈_, _≤ℚ_, _<ℚ_, _+ℚ_, _-ℚ_, _·ℚ_, _÷_, whole, half}
 use Rattle.element_sibson.specs.Cubic.{Cell, Point, Jet, Bend, value, jet, bend, _≋_}
-use Rattle.element_sibson.specs.Piece.{Piece, top, right, bottom, left, FourCubics, edge}
+use Rattle.element_sibson.specs.Piece.{Piece, top, right, bottom, left, FourCubics, edge, leftTop, rightTop, leftBottom, rightBottom}
 use Rattle.element_sibson.specs.Conditions.{Meets, SameCorners, Equal}
 use Rattle.element_sibson.specs.Element.{cornerNumbers, halved}
 use Rattle.element_sibson.specs.Sense.{FractionLaws, SameValues, Derivatives, Linearity, Covering}
@@ -21,7 +21,7 @@ use Rattle.element_nistir_6718.specs.Source as nistir
 use Rattle.element_nistir_6718.specs.Misprints.{Misprints}
 use Rattle.element_readings.specs.Reading.{rounded, _withinℚ_}
 use Rattle.sheet_words.specs.Word.{byteAt, WordLaws}
-use Rattle.sheet_layout.specs.Format.{columns, rows, lineX, lineY, Node, decoded}
+use Rattle.sheet_layout.specs.Format.{columns, rows, lineX, lineY, Node, decoded, nodeAt}
 use Rattle.sheet_calls.specs.Rules.{Rule, rule, Each, Fails, FirstToHold}
 use Rattle.sheet_calls.specs.Refusals.{otherMark, otherVersion, otherCounts, otherLength, wrongLines, wrongNodes, outside, offMesh, emptyRun, otherKind, noNode, wrongNumbers, Accepted, LookupInput, SettingInput, ReadingInput, RunInput}
 use Rattle.sheet_calls.specs.WellFormed.{Inside, ConditionLaws}
@@ -208,6 +208,10 @@ pub record DemandTwo : Type 0 where
 
 -- ---- demand 3
 
+-- the numbers of the node at column i and row j: its height in grains, 64 to a step, and its slopes
+abbrev pub numbersAt : List ℕ → ℕ → ℕ → Jet ℤ
+numbersAt s i j = record { height = pos 64 *ℤ nodeAt s i j .storedHeight; xSlope = nodeAt s i j .slopeX; ySlope = nodeAt s i j .slopeY }
+
 pub record DemandThree : Type 0 where
   pub accepted : AcceptedMeans
   -- "Take any cell, whatever its width and height, and any two sets of four cubics over it, whatever their coefficients, each set meeting along the diagonals
@@ -221,10 +225,12 @@ pub record DemandThree : Type 0 where
   pub derivatives : Derivatives
   pub linear : Linearity
   pub sameValues : SameValues
-  -- "On every accepted sheet the set we read from in each cell is the one such set that has the nodes' numbers at the corners;" The
-  -- cell is as wide and high as its lines are apart
+  -- "On every accepted sheet the set we read from in each cell is the one such set that has the nodes' numbers at the corners;" The cell is as wide and high as
+  -- its lines are apart, and its nodes are the four where they cross
   pub widths : (s : List ℕ) → Accepted s → (i j : ℕ) → HasCell s i j → lineX s i + cellOf s i j .W .number ≡ lineX s (suc i)
   pub heights : (s : List ℕ) → Accepted s → (i j : ℕ) → HasCell s i j → lineY s j + cellOf s i j .H .number ≡ lineY s (suc j)
+  pub corners : (s : List ℕ) (i j : ℕ) → (nodesOf s i j leftTop ≡ numbersAt s i j) × (nodesOf s i j rightTop ≡ numbersAt s (suc i) j)
+      × (nodesOf s i j leftBottom ≡ numbersAt s i (suc j)) × (nodesOf s i j rightBottom ≡ numbersAt s (suc i) (suc j))
   pub meets : (s : List ℕ) → Accepted s → (i j : ℕ) → HasCell s i j → Meets (cellOf s i j) (setOf s i j)
   pub nodes : (s : List ℕ) → Accepted s → (i j : ℕ) → HasCell s i j → Has (cellOf s i j) (setOf s i j) (λ c. wholes (nodesOf s i j c))
   pub only : (s : List ℕ) → Accepted s → (i j : ℕ) → HasCell s i j → (S : FourCubics) → Meets (cellOf s i j) S →
