@@ -96,4 +96,5 @@ unfolding next inOrder weighed halved transposed flipped mirrored value twice pr
 together = each (λ c. shows c printed) (λ c. shown c printed) corrections tt
 
 pub misprints : Misprints
-misprints = record { fit = fit; values = values; putRight = put-right; alone = alone; together = together }
+unfolding corrections
+misprints = record { pieces = refl; rows = refl; fit = fit; values = values; putRight = put-right; alone = alone; together = together }

@@ -6,7 +6,7 @@ use lib.Dec.{eqb}
 use lib.IntN.{ℤ}
 use Rattle.element_sibson.specs.Fraction.{_≈_}
 use Rattle.element_sibson.specs.Cubic.{Cell, Point, value}
-use Rattle.element_sibson.specs.Piece.{Piece, next, FourCubics, HalfDiagonal}
+use Rattle.element_sibson.specs.Piece.{Piece, right, bottom, left, next, FourCubics, HalfDiagonal, leftTop, leftBottom}
 use Rattle.element_sibson.specs.Conditions.{Meets}
 use Rattle.element_sibson.specs.Element.{CornerNumbers, +_, halved, sibson}
 use Rattle.element_nistir_6718.specs.Formulas.{Formulas, printed}
@@ -36,6 +36,9 @@ Each P [] = Unit {0}
 Each P (x ∷ xs) = P x × Each P xs
 
 pub record Misprints : Type 0 where
+  -- four terms are put right: in 106 one, in 107 two, in 108 one
+  pub pieces : map (λ c. c .piece) corrections ≡ right ∷ bottom ∷ bottom ∷ left ∷ []
+  pub rows : map (λ c. c .row) corrections ≡ xSlope leftBottom ∷ ySlope leftTop ∷ ySlope leftBottom ∷ ySlope leftTop ∷ []
   -- what a correction takes for printed is printed at its place
   pub fit : map (λ c. termAt c printed) corrections ≡ map (λ c. c .asPrinted ∷ []) corrections
   -- the set's value at a point is the formula's, where the source takes it

@@ -215,11 +215,27 @@ module _ (C : Cell) (S : FourCubics) (smooth : Smooth C S) (P : Point) where
   alike k l (with-previous e h) = subst (λ x. jet C (S x) P ≋ jet C (S l) P) (sym e) (≋-sym (step l h))
   alike k l (at-centre h) = ≋-trans {j = jet C (S k) P} {k = jet C (S top) P} {l = jet C (S l) P} (around-centre h k) (≋-sym (around-centre h l))
 
+-- neighbours agree on the half diagonal, where both triangles are
+smooth-if : (C : Cell) (S : FourCubics) →
+    ((P : Point) → InCell P → (k l : Piece) → T (triangle k P) → T (triangle l P) → jet C (S k) P ≋ jet C (S l) P) → Smooth C S
+unfolding Smooth
+smooth-if C S agreed k P h = let (c, t, u) = meeting k P .0 h in agreed P c k (next k) t u
+
 pub covering : Covering
+unfolding number
 covering = record {
+  numbers = (refl, refl, refl, refl);
+  ofTop = λ P. (inside top P, test top P);
+  ofRight = λ P. (inside right P, test right P);
+  ofBottom = λ P. (inside bottom P, test bottom P);
+  ofLeft = λ P. (inside left P, test left P);
+  ofCell = λ P. (
+    λ c. (c .fromLeft, c .toRight, c .fromTop, c .toBottom),
+    λ h. record { fromLeft = h .0; toRight = h .1; fromTop = h .2; toBottom = h .3 },
+  );
   covers = covers;
   lowest = lowest;
   meeting = meeting;
   shared = shared;
-  agree = λ C S smooth P c k l t u. alike C S smooth P k l (shared P c k l t u);
+  agree = λ C S. (λ smooth P c k l t u. alike C S smooth P k l (shared P c k l t u), smooth-if C S);
 }

@@ -108,11 +108,19 @@ pub data Sharing (k l : Piece) (P : Point) : Type 0 where
   at-centre : ((j : Piece) → HalfDiagonal j P) → Sharing k l P
 
 pub record Covering : Type 0 where
+  -- the pieces by their numbers, and 01's bounds of each within those of the cell
+  pub numbers : (number top ≡ 0) × (number right ≡ 1) × (number bottom ≡ 2) × (number left ≡ 3)
+  pub ofTop : (P : Point) → T (triangle top P) ↔ ((P .s ≤ℚ P .r) × (P .s ≤ℚ complement (P .r)))
+  pub ofRight : (P : Point) → T (triangle right P) ↔ ((P .s ≤ℚ P .r) × (complement (P .s) ≤ℚ P .r))
+  pub ofBottom : (P : Point) → T (triangle bottom P) ↔ ((P .r ≤ℚ P .s) × (complement (P .r) ≤ℚ P .s))
+  pub ofLeft : (P : Point) → T (triangle left P) ↔ ((P .r ≤ℚ P .s) × (P .r ≤ℚ complement (P .s)))
+  pub ofCell : (P : Point) → InCell P ↔ ((whole (pos 0) ≤ℚ P .r) × (P .r ≤ℚ whole (pos 1)) × (whole (pos 0) ≤ℚ P .s) × (P .s ≤ℚ whole (pos 1)))
   -- every point is in its piece, which has the lowest number of those that hold it
   pub covers : (P : Point) → T (triangle (pieceAt P) P)
   pub lowest : (P : Point) (k : Piece) → T (triangle k P) → number (pieceAt P) ≤ number k
   -- a half diagonal is exactly where two neighbouring triangles of the cell meet
   pub meeting : (k : Piece) (P : Point) → HalfDiagonal k P ↔ (InCell P × T (triangle k P) × T (triangle (next k) P))
   pub shared : (P : Point) → InCell P → (k l : Piece) → T (triangle k P) → T (triangle l P) → Sharing k l P
-  -- so the pieces of a smooth set agree wherever they meet
-  pub agree : (C : Cell) (S : FourCubics) → Smooth C S → (P : Point) → InCell P → (k l : Piece) → T (triangle k P) → T (triangle l P) → jet C (S k) P ≋ jet C (S l) P
+  -- so a set is smooth exactly when its pieces agree wherever they meet
+  pub agree : (C : Cell) (S : FourCubics) → Smooth C S ↔
+      ((P : Point) → InCell P → (k l : Piece) → T (triangle k P) → T (triangle l P) → jet C (S k) P ≋ jet C (S l) P)

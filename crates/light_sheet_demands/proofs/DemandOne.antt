@@ -41,9 +41,11 @@ demand-one = record {
   refusedReading = λ c. refused-reading c;
   noValues = no-values;
   emptyPart = λ c d h.
-      (subst (Part _ _) (lookup-laws .refused _ _ _ (λ e. h (d .answer ∙ e))) (c .part), c .part .bytes ∙ lookup-laws .none _ _ _ (λ e. h (d .answer ∙ e)));
+      let p = subst (Part _ _) (lookup-laws .refused _ _ _ (λ e. h (d .answer ∙ e))) (c .part) in
+      (c .part .bytes ∙ lookup-laws .none _ _ _ (λ e. h (d .answer ∙ e)), p .block, omega (arith, p .address));
   nodePart = λ c d e.
-      (subst (Part _ _) (lookup-laws .found _ _ _ (sym (d .answer) ∙ e)) (c .part), ap length (c .part .bytes) ∙ lookup-laws .six _ _ _ (sym (d .answer) ∙ e));
+      let p = subst (Part _ _) (lookup-laws .found _ _ _ (sym (d .answer) ∙ e)) (c .part) in
+      (ap length (c .part .bytes) ∙ lookup-laws .six _ _ _ (sym (d .answer) ∙ e), p .block, p .address);
   eachByte = λ c d e k l. rw (c .part .bytes) (lookup-laws .each _ _ _ (sym (d .answer) ∙ e) k l);
   offset = λ c d e. c .answer ∙ ap (λ p. p .start) (lookup-laws .found _ _ _ (sym (d .answer) ∙ e));
   noOffset = λ c d. (

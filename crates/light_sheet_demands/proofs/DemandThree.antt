@@ -1,6 +1,8 @@
 -- Demand 3, from the theorems on one cell and on the surface of a sheet. Assumes nothing.
 use mathlib.Core.Path.{refl, sym, _∙_}
 use lib.Dec.{lit≤}
+use Rattle.element_sibson.specs.Conditions.{Smooth, SameCorners, Equal}
+use Rattle.element_sibson.specs.Theorems.{Has}
 use Rattle.element_sibson.proofs.Fractions.{fraction-laws}
 use Rattle.element_sibson.proofs.Covers.{covering}
 use Rattle.element_sibson.proofs.Derivatives.{derivatives}
@@ -19,7 +21,7 @@ use Rattle.light_sheet_demands.proofs.Refusals.{accepted-means}
 use Rattle.light_sheet_demands.proofs.Values.{both-are}
 
 pub demand-three : DemandThree
-unfolding heightAt slopeXAt slopeYAt nodesOf jetAt exact nodeNumbers
+unfolding Smooth SameCorners Equal Has heightAt slopeXAt slopeYAt nodesOf jetAt exact nodeNumbers
 demand-three = record {
   accepted = accepted-means;
   unique = uniqueness .exactly;
@@ -28,6 +30,13 @@ demand-three = record {
   derivatives = derivatives;
   linear = linearity;
   sameValues = same-values;
+  conditions = λ C S. (
+    λ m. (λ k P. m .smooth k P, λ k. linearity .straight C k (S k) .0 (m .linear k)),
+    λ h. record { smooth = h .0; linear = λ k. linearity .straight C k (S k) .1 (h .1 k) },
+  );
+  equal = λ S S′. (λ e k. same-values .everywhere (S k) (S′ k) .0 (e k), λ v k. same-values .everywhere (S k) (S′ k) .1 (v k));
+  sameCorners = λ C S S′. (λ h. h, λ h. h);
+  has = λ C S j. (λ h. h, λ h. h);
   widths = the-set .widths;
   heights = the-set .heights;
   corners = λ s i j. (refl, refl, refl, refl);

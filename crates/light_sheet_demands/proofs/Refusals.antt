@@ -1,7 +1,9 @@
 -- The numbers that calls give, by their records: each is that of the first condition of the call's list to hold. Assumes nothing.
 use Prim.Native.Nat.{ℕ}
-use mathlib.Core.Path.{_≡_}
-use mathlib.Core.List.{List}
+use mathlib.Core.Path.{_≡_, refl, sym, subst}
+use mathlib.Core.Logic.{_↔_, _⊎_, inl, inr}
+use mathlib.Core.List.{List, [], _∷_}
+use mathlib.Core.Bool.{Bool, true, false, cond}
 use native.Mathlib.Decide.{ℕ-discrete}
 use lib.Dec.{T}
 use lib.IntN.{ℤ}
@@ -9,20 +11,37 @@ use lib.ListN.{length}
 use Rattle.sheet_layout.specs.Format.{Node}
 use Rattle.sheet_calls.specs.Rules.{Rule, firstRefusal}
 use Rattle.sheet_calls.specs.Refusals.{sheetRules, checkRules, checkRefusal, lookupRules, lookupRefusal, settingRules, settingRefusal, readingRules, readingRefusal, runRules, runRefusal}
-use Rattle.sheet_calls.proofs.Rules.{rule-laws, nonzero, numbered}
+use Rattle.sheet_calls.proofs.Rules.{Numbered, nonzero, numbered}
 use Rattle.surface_answers.specs.Answers.{outcome, answered, refused}
 use Rattle.surface_answers.specs.declared.Answer.{Answer}
 use Rattle.surface_of_sheet.specs.Read.{read}
 use Rattle.surface_of_sheet.proofs.Answered.{taken-is, refused-is}
 use Rattle.light_sheet_demands.specs.Contracts.{Check, NodeRefusal, SetNode, Read, FillRun}
-use Rattle.light_sheet_demands.specs.Demands.{Gives, ofCheck, ofLookup, ofSetting, ofReading, ofRun, AcceptedMeans}
+use Rattle.light_sheet_demands.specs.Demands.{FirstHolds, NoneHolds, Gives, ofCheck, ofLookup, ofSetting, ofReading, ofRun, AcceptedMeans}
 
--- what rules give, whatever they are, where none has the number 0
-gives : {Input : Type 0} (rules : List (Rule Input)) (u : Input) → T (nonzero rules) → {n : ℕ} → n ≡ firstRefusal rules u → Gives rules u n
-gives rules u h e = rw e (record {
-  refused = λ k z. (rule-laws .thenOnly rules u k z, rule-laws .given rules u k);
-  taken = (rule-laws .zeroOnly rules u (numbered rules h), rule-laws .zero rules u);
-})
+module _ {Input : Type 0} where
+  first-holds : (rules : List (Rule Input)) (u : Input) (k : ℕ) → ¬ (k ≡ 0) → (firstRefusal rules u ≡ k) ↔ FirstHolds rules u k
+  unfolding firstRefusal
+  first-holds [] u k z = (λ e. z (sym e), λ f. absurd f)
+  first-holds (r ∷ rules) u k z = by (r .condition u) (first-holds rules u k z)
+    where
+      by : (b : Bool) → (firstRefusal rules u ≡ k) ↔ FirstHolds rules u k →
+          (cond b (r .number) (firstRefusal rules u) ≡ k) ↔ (((b ≡ true) × (r .number ≡ k)) ⊎ ((b ≡ false) × FirstHolds rules u k))
+      by true rest = (λ e. inl (refl, e), λ h. elim h [ inl a ↦ a .1 | inr b ↦ absurd (subst T (b .0) tt) ])
+      by false rest = (λ e. inr (refl, rest .0 e), λ h. elim h [ inl a ↦ absurd (subst T (sym (a .0)) tt) | inr b ↦ rest .1 (b .1) ])
+
+  none-holds : (rules : List (Rule Input)) (u : Input) → Numbered rules → (firstRefusal rules u ≡ 0) ↔ NoneHolds rules u
+  unfolding firstRefusal
+  none-holds [] u h = (λ e. tt, λ f. refl)
+  none-holds (r ∷ rules) u h = by (r .condition u) (none-holds rules u (h .1))
+    where
+      by : (b : Bool) → (firstRefusal rules u ≡ 0) ↔ NoneHolds rules u → (cond b (r .number) (firstRefusal rules u) ≡ 0) ↔ ((b ≡ false) × NoneHolds rules u)
+      by true rest = (λ e. absurd (h .0 e), λ f. absurd (subst T (f .0) tt))
+      by false rest = (λ e. (refl, rest .0 e), λ f. rest .1 (f .1))
+
+  -- what rules give, whatever they are, where none has the number 0
+  gives : (rules : List (Rule Input)) (u : Input) → T (nonzero rules) → {n : ℕ} → n ≡ firstRefusal rules u → Gives rules u n
+  gives rules u h e = rw e (record { refused = first-holds rules u; taken = none-holds rules u (numbered rules h) })
 
 pub check-gives : {s t : List ℕ} {n : ℕ} → Check s n t → Gives ofCheck s n
 unfolding nonzero sheetRules checkRules checkRefusal

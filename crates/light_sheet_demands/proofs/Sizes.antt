@@ -13,7 +13,6 @@ use Rattle.integers.proofs.Deduce.{_·_, _⊨_, deduce}
 use Rattle.integers.proofs.Order.{*ℤ-cancel-r}
 use Rattle.integers.proofs.Bounds.{is-within, within-lower, within-upper}
 use Rattle.element_sibson.specs.Fraction.{positive, whole, _÷_}
-use Rattle.sheet_calls.specs.Rules.{Each}
 use Rattle.sheet_calls.specs.Refusals.{Accepted}
 use Rattle.sheet_calls.specs.WellFormed.{Inside}
 use Rattle.surface_answers.specs.Answers.{outcome, divisor, quotient, answered, FitsFloat}
@@ -26,14 +25,14 @@ use Rattle.surface_of_sheet.proofs.Answered.{taken-is}
 use Rattle.surface_of_sheet.proofs.Runs.{run-laws}
 use Rattle.surface_of_sheet.proofs.Sizes.{level-below, small-level, small-tilts, small-bends}
 use Rattle.light_sheet_demands.specs.Contracts.{Read, FillRun}
-use Rattle.light_sheet_demands.specs.Demands.{Lossless, LevelSized}
+use Rattle.light_sheet_demands.specs.Demands.{Lossless, Every, LevelSized}
 use Rattle.light_sheet_demands.proofs.Readings.{no-values, taken, pixel-held}
 
 lossless : (kind : ℕ) (z : ℤ) → FitsFloat z → Lossless (divisor kind) (quotient (divisor kind) z)
 lossless kind z h = record { number = z; exact = quotient-laws .exact kind z h; zero = λ e. rw e (quotient-laws .zero kind) }
 
 each-lossless : (s : List ℕ) (x y : ℕ) → Accepted s → Inside s x y → (kind : ℕ) →
-    Each (Lossless (divisor kind)) (map (quotient (divisor kind)) (numbers s x y kind))
+    Every (Lossless (divisor kind)) (map (quotient (divisor kind)) (numbers s x y kind))
 unfolding numbers
 each-lossless s x y a i zero = (lossless 0 _ (small-level s x y a i), tt)
 each-lossless s x y a i (suc zero) = let (p, q) = small-tilts s x y a i in (lossless 1 _ p, (lossless 1 _ q, tt))
@@ -53,7 +52,7 @@ level-of-float w z h e =
     *ℤ-cancel-r 64 (lit< tt) (deduce 2 (λ w z. (⊖ # 1 · (# 64 ⊗ z ⊗ # 1 ≐ w ⊗ (# 1 ⊗ # 64))) ∷ [] ⊨ w ⊗ # 64 ≐ z ⊗ # 64) tt w z c)
 
 module _ {s t : List ℕ} {x y kind : ℕ} {r : Answer} (c : Read s x y kind r t) where
-  pub floats-are : Each (Lossless (divisor kind)) (outcome r .values)
+  pub floats-are : Every (Lossless (divisor kind)) (outcome r .values)
   unfolding answered
   floats-are = elim (ℕ-discrete (outcome r .number) 0) [
     | yes z ↦ let h = pixel-held c z in rw (c .values, taken-is s x y kind (taken c z)) (each-lossless s x y (h .accepted) (h .inside) kind)
@@ -61,7 +60,7 @@ module _ {s t : List ℕ} {x y kind : ℕ} {r : Answer} (c : Read s x y kind r t
   ]
 
 pub read-level-sized : {s t : List ℕ} {x y : ℕ} {r : Answer} → Read s x y 0 r t →
-    Each (λ v. (z : ℤ) → v is whole z ÷ positive 64 tt → LevelSized z) (outcome r .values)
+    Every (λ v. (z : ℤ) → v is whole z ÷ positive 64 tt → LevelSized z) (outcome r .values)
 unfolding answered numbers
 read-level-sized {s} {t} {x} {y} {r} c = elim (ℕ-discrete (outcome r .number) 0) [
   | yes z ↦ rw (c .values, taken-is s x y 0 (taken c z)) (λ w e. at-pixel (pixel-held c z .accepted) (pixel-held c z .inside) w e, tt)

@@ -2,33 +2,33 @@
 -- are records of Contracts. Assumes nothing.
 use Prim.Native.Nat.{ℕ, suc, _+_, _*_, _^_, _≤_, _<_}
 use mathlib.Core.Path.{_≡_}
-use mathlib.Core.Logic.{_↔_}
+use mathlib.Core.Logic.{_↔_, _⊎_}
 use mathlib.Core.List.{List, [], _∷_, _++_, map}
-use mathlib.Core.Bool.{false}
-use denote.Ref.{RefT, now}
+use mathlib.Core.Bool.{true, false}
+use denote.Ref.{RefT, ptr, now}
+use lib.Dec.{T}
 use lib.IntN.{ℤ, pos, negℤ, _+ℤ_, _*ℤ_}
 use lib.Signed.{_<ℤ_}
 use lib.ListN.{length, getD, take}
 use lib.Ieee.{Float, fin}
 use Rattle.element_sibson.specs.Fraction.{Positive, positive, ℚ, _≈_, _≤ℚ_, _<ℚ_, _+ℚ_, _-ℚ_, _·ℚ_, _÷_, whole, half}
 use Rattle.element_sibson.specs.Cubic.{Cell, Point, Jet, Bend, value, jet, bend, _≋_}
-use Rattle.element_sibson.specs.Piece.{Piece, top, right, bottom, left, FourCubics, edge, leftTop, rightTop, leftBottom, rightBottom}
+use Rattle.element_sibson.specs.Piece.{Piece, top, right, bottom, left, next, FourCubics, triangle, HalfDiagonal, edge, Corner, at, leftTop, rightTop, leftBottom, rightBottom}
 use Rattle.element_sibson.specs.Conditions.{Meets, SameCorners, Equal}
 use Rattle.element_sibson.specs.Element.{cornerNumbers, halved}
-use Rattle.element_sibson.specs.Sense.{FractionLaws, SameValues, Derivatives, Linearity, Covering}
+use Rattle.element_sibson.specs.Sense.{FractionLaws, SameValues, Derivatives, Turnings, Straight, Linearity, Covering}
 use Rattle.element_sibson.specs.Theorems.{Has, wholes}
 use Rattle.element_nistir_6718.specs.Source as nistir
 use Rattle.element_nistir_6718.specs.Misprints.{Misprints}
 use Rattle.element_readings.specs.Reading.{rounded, _withinℚ_}
 use Rattle.sheet_words.specs.Word.{byteAt, WordLaws}
-use Rattle.sheet_layout.specs.Format.{columns, rows, lineX, lineY, Node, decoded, nodeAt}
-use Rattle.sheet_calls.specs.Rules.{Rule, rule, Each, Fails, FirstToHold}
+use Rattle.sheet_layout.specs.Format.{columns, rows, lineX, lineY, Node, node, decoded, nodeAt}
+use Rattle.sheet_calls.specs.Rules.{Rule, rule}
 use Rattle.sheet_calls.specs.Refusals.{otherMark, otherVersion, otherCounts, otherLength, wrongLines, wrongNodes, outside, offMesh, emptyRun, otherKind, noNode, wrongNumbers, Accepted, LookupInput, SettingInput, ReadingInput, RunInput}
 use Rattle.sheet_calls.specs.WellFormed.{Inside, ConditionLaws}
-use Rattle.sheet_calls.specs.Calls.{Part, stretch}
 use Rattle.sheet_calls.specs.NodeLaws.{ReadsBack}
 use Rattle.surface_answers.specs.Answers.{Outcome, outcome, divisor, quotient}
-use Rattle.surface_answers.specs.AnswerLaws.{AnswerLaws, _is_}
+use Rattle.surface_answers.specs.AnswerLaws.{AnswerLaws, QuotientLaws, _is_}
 use Rattle.surface_answers.specs.declared.Answer.{Answer}
 use Rattle.surface_answers.specs.declared.Answer.the-variants as answer
 use Rattle.surface_of_sheet.specs.Place.{cellOf, HasCell, pointAt, place}
@@ -39,11 +39,21 @@ use Rattle.light_sheet_demands.specs.Contracts.{Check, NodeRefusal, Node
 
 -- ---- demand 1
 
+-- the first of these rules to hold of the input u has the number n: the rule in front holds and has it, or does not hold, and so for those behind
+abbrev pub FirstHolds : {Input : Type 0} → List (Rule Input) → Input → ℕ → Type 0
+FirstHolds [] u n = ⊥
+FirstHolds (r ∷ rules) u n = ((r .condition u ≡ true) × (r .number ≡ n)) ⊎ ((r .condition u ≡ false) × FirstHolds rules u n)
+
+-- none of them holds
+abbrev pub NoneHolds : {Input : Type 0} → List (Rule Input) → Input → Type 0
+NoneHolds [] u = Unit {0}
+NoneHolds (r ∷ rules) u = (r .condition u ≡ false) × NoneHolds rules u
+
 -- n is the number that a call gives which looks at these rules on its input u: a refusal's exactly when its condition is the first of them in order to hold, 0
 -- exactly when none holds
 pub record Gives {Input : Type 0} (rules : List (Rule Input)) (u : Input) (n : ℕ) : Type 0 where
-  pub refused : (k : ℕ) → ¬ (k ≡ 0) → (n ≡ k) ↔ FirstToHold rules u k
-  pub taken : (n ≡ 0) ↔ Each (Fails u) rules
+  pub refused : (k : ℕ) → ¬ (k ≡ 0) → (n ≡ k) ↔ FirstHolds rules u k
+  pub taken : (n ≡ 0) ↔ NoneHolds rules u
 
 -- 01's conditions that each call looks at, by their numbers, in the order of looking: those of the sheet in its input, then its own
 abbrev pub ofSheet : {Input : Type 0} → (Input → List ℕ) → List (Rule Input)
@@ -108,11 +118,12 @@ pub record DemandOne : Type 0 where
   -- a reading that is refused is `Refused` with its number: it has no values
   pub refusedReading : {s t : List ℕ} {x y kind n : ℕ} {r : Answer} → Read s x y kind r t → outcome r .number ≡ n → ¬ (n ≡ 0) → r ≡ answer.Refused n
   pub noValues : {s t : List ℕ} {x y kind : ℕ} {r : Answer} → Read s x y kind r t → ¬ (outcome r .number ≡ 0) → outcome r .values ≡ []
-  -- a lookup that its companion says is refused hands back a part from the sheet's start that holds nothing; else the node's six bytes, where they lie
+  -- a lookup that its companion says is refused hands back a part that holds nothing, at the sheet's start; else the node's six bytes, where they lie: in the
+  -- sheet's block of memory, at the node's address there
   pub emptyPart : {s r : RefT (List ℕ)} {t t′ : List ℕ} {i j n : ℕ} → NodeCall s i j r t → NodeRefusal (now s) i j n t′ → ¬ (n ≡ 0) →
-      Part s r (stretch 0 0) × (now r ≡ [])
+      (now r ≡ []) × (ptr r .0 ≡ ptr s .0) × (ptr r .1 ≡ ptr s .1)
   pub nodePart : {s r : RefT (List ℕ)} {t t′ : List ℕ} {i j n : ℕ} → NodeCall s i j r t → NodeRefusal (now s) i j n t′ → n ≡ 0 →
-      Part s r (stretch (nodeStart (now s) i j) 6) × (length (now r) ≡ 6)
+      (length (now r) ≡ 6) × (ptr r .0 ≡ ptr s .0) × (ptr r .1 ≡ nodeStart (now s) i j + ptr s .1)
   pub eachByte : {s r : RefT (List ℕ)} {t t′ : List ℕ} {i j n : ℕ} → NodeCall s i j r t → NodeRefusal (now s) i j n t′ → n ≡ 0 → (k : ℕ) → k < 6 →
       byteAt (now r) k ≡ byteAt (now s) (nodeStart (now s) i j + k)
   -- in C the part is known by where it starts: 0 exactly where the lookup is refused, for no node starts there
@@ -138,7 +149,7 @@ pixelBend s x y = let p = place s x y in bend (cellOf s (p .column) (p .row)) (s
 
 -- the sheets that demands 2 and 3 speak of, "accepted when none of the conditions 1 to 6 holds"
 abbrev pub AcceptedMeans : Type 0
-AcceptedMeans = (s : List ℕ) → Accepted s ↔ Each (Fails s) ofCheck
+AcceptedMeans = (s : List ℕ) → Accepted s ↔ NoneHolds ofCheck s
 
 -- ---- demand 2
 
@@ -151,6 +162,11 @@ pub record Lossless (d : Positive) (v : Float) : Type 0 where
   pub number : ℤ
   pub exact : v is whole number ÷ d
   pub zero : number ≡ pos 0 → v ≡ fin false 0 (pos 0)
+
+-- P of every value
+abbrev pub Every : (Float → Type 0) → List Float → Type 0
+Every P [] = Unit {0}
+Every P (v ∷ vs) = P v × Every P vs
 
 -- strictly between −2²⁰ and 2²⁰
 abbrev pub LevelSized : ℤ → Type 0
@@ -174,15 +190,19 @@ pub record DemandTwo : Type 0 where
       take (suc kind) array′ ≡ outcome (c .reading) .values
   -- which case of the answer has which number and values
   pub answers : AnswerLaws
-  -- the division "loses nothing", and 0 is +0
-  pub floats : {s t : List ℕ} {x y kind : ℕ} {r : Answer} → Read s x y kind r t → Each (Lossless (divisor kind)) (outcome r .values)
+  -- the division by 64, 64 and 4,096 "loses nothing", and 0 is +0
+  pub divisors : (divisor 0 .number ≡ 64) × (divisor 1 .number ≡ 64) × (divisor 2 .number ≡ 4096)
+  pub quotients : QuotientLaws
+  pub floats : {s t : List ℕ} {x y kind : ℕ} {r : Answer} → Read s x y kind r t → Every (Lossless (divisor kind)) (outcome r .values)
   -- "A level lies strictly between −2²⁰ and 2²⁰." That of a reading is 64 times its float
   pub readLevels : {s t : List ℕ} {x y : ℕ} {r : Answer} → Read s x y 0 r t →
-      Each (λ v. (z : ℤ) → v is whole z ÷ positive 64 tt → LevelSized z) (outcome r .values)
+      Every (λ v. (z : ℤ) → v is whole z ÷ positive 64 tt → LevelSized z) (outcome r .values)
   pub runLevels : {s t : List ℕ} {x y : ℕ} {row row′ : List ℤ} → FillRun s x y row 0 row′ t → (k : ℕ) → k < length row → LevelSized (getD row′ k (pos 0))
   -- the element of NISTIR 6718: its formulas 105 to 108, put right where 01 says, for the corner numbers of each cell
   pub source : (s : List ℕ) (i j : ℕ) (k : Piece) (P : Point) →
       value (setOf s i j k) P ≈ value (halved (nistir.table k) (cornerNumbers (cellOf s i j) (nodesOf s i j))) (nistir.takenAt k P)
+  -- 01's turnings give it
+  pub turnings : Turnings
   -- the print breaks its own conditions in the four terms that are put right
   pub misprints : Misprints
   -- slopes and bends are first and second derivatives
@@ -198,13 +218,14 @@ pub record DemandTwo : Type 0 where
   -- equal fractions round alike; equality, order and sums of fractions are what they are called
   pub alike : (x y : ℚ) → x ≈ y → rounded x ≡ rounded y
   pub fractions : FractionLaws
-  -- "A node set to new numbers reads back as those numbers." Looked up, and read at its pixel: the height, in grains, and the slopes
+  -- "A node set to new numbers reads back as those numbers." Of a height h, in steps, and slopes p and q: looked up, and read at its pixel, h in grains
   pub readsBack : {s t : List ℕ} {i j : ℕ} {v : Node} → SetNode s i j v 0 t → ReadsBack i j v t
-  pub nodeBack : {s t t′ : List ℕ} {i j : ℕ} {v : Node} {u r : RefT (List ℕ)} → SetNode s i j v 0 t → now u ≡ t → NodeCall u i j r t′ → decoded (now r) ≡ v
-  pub levelBack : {s t t′ : List ℕ} {i j : ℕ} {v : Node} {r : Answer} → SetNode s i j v 0 t → Read t (lineX s i) (lineY s j) 0 r t′ →
-      outcome r ≡ given (positive 64 tt) ((pos 64 *ℤ v .storedHeight) ∷ [])
-  pub tiltBack : {s t t′ : List ℕ} {i j : ℕ} {v : Node} {r : Answer} → SetNode s i j v 0 t → Read t (lineX s i) (lineY s j) 1 r t′ →
-      outcome r ≡ given (positive 64 tt) (v .slopeX ∷ v .slopeY ∷ [])
+  pub nodeBack : {s t t′ : List ℕ} {i j : ℕ} {h p q : ℤ} {u r : RefT (List ℕ)} → SetNode s i j (node h p q) 0 t → now u ≡ t → NodeCall u i j r t′ →
+      (decoded (now r) .storedHeight ≡ h) × (decoded (now r) .slopeX ≡ p) × (decoded (now r) .slopeY ≡ q)
+  pub levelBack : {s t t′ : List ℕ} {i j : ℕ} {h p q : ℤ} {r : Answer} → SetNode s i j (node h p q) 0 t → Read t (lineX s i) (lineY s j) 0 r t′ →
+      outcome r ≡ given (positive 64 tt) ((pos 64 *ℤ h) ∷ [])
+  pub tiltBack : {s t t′ : List ℕ} {i j : ℕ} {h p q : ℤ} {r : Answer} → SetNode s i j (node h p q) 0 t → Read t (lineX s i) (lineY s j) 1 r t′ →
+      outcome r ≡ given (positive 64 tt) (p ∷ q ∷ [])
 
 -- ---- demand 3
 
@@ -219,12 +240,19 @@ pub record DemandThree : Type 0 where
   -- the same height and slopes at the four corners."
   pub unique : (C : Cell) (S S′ : FourCubics) → Meets C S → Meets C S′ → (Equal S S′ ↔ SameCorners C S S′)
   -- these words: sums, quotients and order of fractions; the pieces and the half diagonals where they meet; slopes, which are derivatives; linear, which is a
-  -- straight line at all points of the edge; and equal, which is the same value at every point
+  -- straight line at all points of the edge; equal cubics, which have the same value at every point
   pub fractions : FractionLaws
   pub covering : Covering
   pub derivatives : Derivatives
   pub linear : Linearity
   pub sameValues : SameValues
+  -- and of sets: the conditions, equal, the same corners
+  pub conditions : (C : Cell) (S : FourCubics) → Meets C S ↔
+      (((k : Piece) (P : Point) → HalfDiagonal k P → jet C (S k) P ≋ jet C (S (next k)) P) × ((k : Piece) → Straight C k (S k)))
+  pub equal : (S S′ : FourCubics) → Equal S S′ ↔ ((k : Piece) (P : Point) → value (S k) P ≈ value (S′ k) P)
+  pub sameCorners : (C : Cell) (S S′ : FourCubics) → SameCorners C S S′ ↔
+      ((k : Piece) (c : Corner) → T (triangle k (at c)) → jet C (S k) (at c) ≋ jet C (S′ k) (at c))
+  pub has : (C : Cell) (S : FourCubics) (j : Corner → Jet ℚ) → Has C S j ↔ ((k : Piece) (c : Corner) → T (triangle k (at c)) → jet C (S k) (at c) ≋ j c)
   -- "On every accepted sheet the set we read from in each cell is the one such set that has the nodes' numbers at the corners;" The cell is as wide and high as
   -- its lines are apart, and its nodes are the four where they cross
   pub widths : (s : List ℕ) → Accepted s → (i j : ℕ) → HasCell s i j → lineX s i + cellOf s i j .W .number ≡ lineX s (suc i)

@@ -10,7 +10,7 @@ use lib.Dec.{eqb, lit<}
 use borrow.Author.Tests.{ne-eqb, eqb-false}
 use Rattle.sheet_words.specs.Word.{byteAt, signed}
 use Rattle.sheet_words.proofs.Replaced.{stretch-byte}
-use Rattle.sheet_layout.specs.Format.{headerSize, marked, version, supported, columns, rows, countIn, reserved, lineX, lineY, node, decoded, nodeSize, nodeOffset, nodeBytes, nodeAt, statedSize, someNodeOut}
+use Rattle.sheet_layout.specs.Format.{headerSize, marked, version, supported, columns, rows, countIn, reserved, lineX, lineY, decoded, nodeSize, nodeOffset, nodeBytes, nodeAt, statedSize, someNodeOut}
 use Rattle.sheet_calls.specs.Refusals.{otherMark, otherVersion, otherCounts, otherLength, wrongLines, wrongNodes, outside, offMesh, emptyRun, otherKind, noNode, wrongNumbers}
 use Rattle.sheet_calls.specs.WellFormed.{Rising, InRange, Inside, ConditionLaws}
 use Rattle.sheet_layout.proofs.Meaning.{ltb-fails, leb-fails, not-fails, or-fails, leb-holds, eqb-holds, and-holds}
@@ -83,14 +83,16 @@ node-byte : (s : List ℕ) (i j k n w : ℕ) → k ≡ nodeOffset s i j → n < 
 node-byte s i j k n w e h q = let at : nodeOffset s i j + n ≡ w = omega (arith, e, q) in stretch-byte s (nodeOffset s i j) nodeSize n h ∙ ap (byteAt s) at
 
 node-numbers : (s : List ℕ) (i j k : ℕ) → k ≡ nodeOffset s i j →
-    nodeAt s i j ≡ node (signed (byteAt s k + byteAt s (k + 1) * 256)) (signed (byteAt s (k + 2) + byteAt s (k + 3) * 256))
-    (signed (byteAt s (k + 4) + byteAt s (k + 5) * 256))
+    (nodeAt s i j .storedHeight ≡ signed (byteAt s k + byteAt s (k + 1) * 256)) × (nodeAt s i j .slopeX ≡ signed (byteAt s (k + 2) + byteAt s (k + 3) * 256))
+    × (nodeAt s i j .slopeY ≡ signed (byteAt s (k + 4) + byteAt s (k + 5) * 256))
 unfolding nodeAt decoded
 node-numbers s i j k e =
     let low = node-byte s i j k 0 k e (lit< tt) (omega arith) in
-    let at : (n : ℕ) → n < nodeSize → byteAt (nodeBytes s i j) n ≡ byteAt s (k + n) = λ n h. node-byte s i j k n (k + n) e h refl in
-    λ t. node (signed (low t + at 1 (lit< tt) t * 256)) (signed (at 2 (lit< tt) t + at 3 (lit< tt) t * 256))
-    (signed (at 4 (lit< tt) t + at 5 (lit< tt) t * 256))
+    let at : (n : ℕ) → n < nodeSize → byteAt (nodeBytes s i j) n ≡ byteAt s (k + n) = λ n h. node-byte s i j k n (k + n) e h refl in (
+      λ t. signed (low t + at 1 (lit< tt) t * 256),
+      λ t. signed (at 2 (lit< tt) t + at 3 (lit< tt) t * 256),
+      λ t. signed (at 4 (lit< tt) t + at 5 (lit< tt) t * 256),
+    )
 
 pub condition-laws : ConditionLaws
 unfolding offMesh otherKind noNode wrongNumbers
@@ -107,6 +109,7 @@ condition-laws = record {
   nine = λ kind. ltb-fails 2 kind;
   ten = λ s i j. or-fails (leb-fails (columns s) i) (leb-fails (rows s) j);
   eleven = λ v. not-fails (node-in-range v);
+  byte = λ s i. refl;
   columnCount = λ s. refl;
   rowCount = λ s. refl;
   xPosition = λ s i. refl;

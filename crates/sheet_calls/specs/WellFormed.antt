@@ -4,10 +4,10 @@ use mathlib.Core.Path.{_≡_}
 use mathlib.Core.Logic.{_↔_}
 use mathlib.Core.List.{List}
 use mathlib.Core.Bool.{false}
-use lib.ListN.{length}
+use lib.ListN.{length, getD}
 use Rattle.integers.specs.Within.{_within_}
 use Rattle.sheet_words.specs.Word.{byteAt, signed}
-use Rattle.sheet_layout.specs.Format.{version, columns, rows, lineX, lineY, Node, node, nodeAt}
+use Rattle.sheet_layout.specs.Format.{version, columns, rows, lineX, lineY, Node, nodeAt}
 use Rattle.sheet_calls.specs.Refusals.{otherMark, otherVersion, otherCounts, otherLength, wrongLines, wrongNodes, outside, offMesh, emptyRun, otherKind, noNode, wrongNumbers, Accepted, sheetRefusal, checkRefusal}
 
 -- the positions of an axis's n lines: none exceeds 4,096, each rises above the one before, by at most 64
@@ -50,14 +50,16 @@ pub record ConditionLaws : Type 0 where
   pub nine : (kind : ℕ) → (otherKind kind ≡ false) ↔ (kind ≤ 2)
   pub ten : (s : List ℕ) (i j : ℕ) → (noNode s i j ≡ false) ↔ ((i < columns s) × (j < rows s))
   pub eleven : (v : Node) → (wrongNumbers v ≡ false) ↔ InRange v
-  -- the words above, byte by byte: how many lines there are each way, where each lies, and what a node holds that starts at index k
+  -- the words above, byte by byte, of which there is a 0 past the end: how many lines there are each way, where each lies, and what a node holds that starts at
+  -- index k: a height, then the slopes along x and y
+  pub byte : (s : List ℕ) (i : ℕ) → byteAt s i ≡ getD s i 0
   pub columnCount : (s : List ℕ) → columns s ≡ byteAt s 5
   pub rowCount : (s : List ℕ) → rows s ≡ byteAt s 6
   pub xPosition : (s : List ℕ) (i : ℕ) → lineX s i ≡ byteAt s (8 + 2 * i) + byteAt s (8 + 2 * i + 1) * 256
   pub yPosition : (s : List ℕ) (j : ℕ) → lineY s j ≡ byteAt s (8 + 2 * columns s + 2 * j) + byteAt s (8 + 2 * columns s + 2 * j + 1) * 256
   pub nodeNumbers : (s : List ℕ) (i j k : ℕ) → k ≡ 8 + 2 * columns s + 2 * rows s + 6 * (j * columns s + i) →
-      nodeAt s i j ≡ node (signed (byteAt s k + byteAt s (k + 1) * 256)) (signed (byteAt s (k + 2) + byteAt s (k + 3) * 256))
-      (signed (byteAt s (k + 4) + byteAt s (k + 5) * 256))
+      (nodeAt s i j .storedHeight ≡ signed (byteAt s k + byteAt s (k + 1) * 256)) × (nodeAt s i j .slopeX ≡ signed (byteAt s (k + 2) + byteAt s (k + 3) * 256))
+      × (nodeAt s i j .slopeY ≡ signed (byteAt s (k + 4) + byteAt s (k + 5) * 256))
 
 -- what 01 says of the bytes of a sheet, as facts
 pub record WellFormed (s : List ℕ) : Type 0 where

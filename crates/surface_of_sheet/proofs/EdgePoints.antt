@@ -45,7 +45,7 @@ seenJet v = jet (v .C) (v .S (v .piece)) (v .P)
 
 -- another piece that holds the point sees the same
 pub from-piece : (v : View) (k : Piece) → T (triangle k (v .P)) → seenJet v ≋ jet (v .C) (v .S k) (v .P)
-from-piece v k t = covering .agree (v .C) (v .S) (v .smooth) (v .P) (v .inCell) (v .piece) k (v .holds) t
+from-piece v k t = covering .agree (v .C) (v .S) .0 (v .smooth) (v .P) (v .inCell) (v .piece) k (v .holds) t
 
 to-edge : (v : View) (k : Piece) (t : ℚ) → v .P ≈ₚ edge k t → seenJet v ≋ jet (v .C) (v .S k) (edge k t)
 to-edge v k t e = ≋-trans {j = seenJet v} {k = jet (v .C) (v .S k) (v .P)} {l = jet (v .C) (v .S k) (edge k t)}

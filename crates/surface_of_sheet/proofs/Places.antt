@@ -7,6 +7,7 @@ use mathlib.Core.Bool.{Bool, true, false}
 use native.Mathlib.Omega.{arith}
 use lib.Dec.{T}
 use Rattle.element_sibson.specs.Piece.{triangle, number}
+use Rattle.element_sibson.proofs.Fractions.{fraction-laws}
 use Rattle.element_sibson.proofs.Covers.{covering}
 use Rattle.sheet_layout.specs.Format.{columns, rows, lineX, lineY}
 use Rattle.sheet_calls.specs.Refusals.{Accepted}
@@ -139,6 +140,8 @@ pub place-laws : PlaceLaws
 unfolding columnAt rowAt place
 place-laws = record {
   means = λ s p x y. (touched s p x y, touch s p x y);
+  across = λ s p. fraction-laws .quotients _ _;
+  down = λ s p. fraction-laws .quotients _ _;
   there = λ s x y a i. touch s (place s x y) x y (there s a x y i);
   inside = λ s p x y a t. inside s a (touched s p x y t);
   inColumn = λ s x y i a m. along-in (x-rising s a) x (columns s - 2) i (omega (arith, m)) (omega (arith, m));

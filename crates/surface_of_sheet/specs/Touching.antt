@@ -4,12 +4,14 @@ use mathlib.Core.Path.{_≡_}
 use mathlib.Core.Logic.{_↔_}
 use mathlib.Core.List.{List}
 use lib.Dec.{T}
+use lib.IntN.{pos}
+use Rattle.element_sibson.specs.Fraction.{_≈_, _*ℚ_, whole}
 use Rattle.element_sibson.specs.Cubic.{_≋_}
 use Rattle.element_sibson.specs.Piece.{number, triangle}
 use Rattle.sheet_layout.specs.Format.{columns, rows, lineX, lineY}
 use Rattle.sheet_calls.specs.Refusals.{Accepted}
 use Rattle.sheet_calls.specs.WellFormed.{Inside}
-use Rattle.surface_of_sheet.specs.Place.{HasCell, Place, pointAt, place, touches}
+use Rattle.surface_of_sheet.specs.Place.{HasCell, Place, cellAt, pointAt, place, touches}
 use Rattle.surface_of_sheet.specs.Surface.{jetAt, levelAt, tiltXAt, tiltYAt, bendXXAt, level, tiltX, tiltY, bendXX}
 
 -- the pixel lies in a cell of the sheet, borders included, at these offsets, and there in the piece, borders included
@@ -25,6 +27,9 @@ pub record Touches (s : List ℕ) (p : Place) (x y : ℕ) : Type 0 where
 pub record PlaceLaws : Type 0 where
   -- touching says this
   pub means : (s : List ℕ) (p : Place) (x y : ℕ) → T (touches s p x y) ↔ Touches s p x y
+  -- a place's point is r = a/W, s = b/H
+  pub across : (s : List ℕ) (p : Place) → pointAt s p .r *ℚ whole (pos (cellAt s p .W .number)) ≈ whole (pos (p .a))
+  pub down : (s : List ℕ) (p : Place) → pointAt s p .s *ℚ whole (pos (cellAt s p .H .number)) ≈ whole (pos (p .b))
   -- the place is one of the pixel's; every place of the pixel is one of the mesh
   pub there : (s : List ℕ) (x y : ℕ) → Accepted s → Inside s x y → T (touches s (place s x y) x y)
   pub inside : (s : List ℕ) (p : Place) (x y : ℕ) → Accepted s → T (touches s p x y) → Inside s x y
