@@ -6,4 +6,3 @@ pub mod Rounding
 pub mod DemandOne
 pub mod DemandTwo
 pub mod DemandThree
-pub mod Arrays

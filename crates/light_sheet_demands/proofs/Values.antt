@@ -1,6 +1,6 @@
 -- What readings and runs give at the pixels of the mesh, by their records: the height and the derivatives of the element, rounded. Assumes nothing.
 use Prim.Native.Nat.{ℕ, _+_, _<_}
-use mathlib.Core.Path.{_≡_, sym, _∙_, ap}
+use mathlib.Core.Path.{_≡_, sym, _∙_}
 use mathlib.Core.List.{List, [], _∷_}
 use lib.Dec.{lit≤}
 use lib.IntN.{ℤ, pos}
@@ -51,7 +51,3 @@ runs-are c k l = rw (c .levels) (run-laws .levels _ _ _ _ (sym (c .answer)) k l)
 -- by a reading's record: number and values are those of the reading that is defined
 pub outcome-is : {s t : List ℕ} {x y kind : ℕ} {r : Answer} → Read s x y kind r t → outcome r ≡ read s x y kind
 outcome-is c = both-are _ _ _ _ (c .answer) (c .values)
-
--- and the other way round, where the sheet is as it was
-pub is-read : {s t : List ℕ} {x y kind : ℕ} {r : Answer} → outcome r ≡ read s x y kind → t ≡ s → Read s x y kind r t
-is-read e k = record { answer = ap (λ o. o .number) e ∙ read-number _ _ _ _; values = ap (λ o. o .values) e; sheet = k }

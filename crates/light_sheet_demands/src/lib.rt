@@ -1,7 +1,5 @@
-// The customer's three demands, each one theorem. A theorem is the contract of a function that returns 0, so that the gate asks for its proof.
-pub mod calls;
-pub mod calls_for_c;
-
+// The customer's three demands, each one theorem. A theorem is the contract of a function that returns 0, so that the gate asks for its proof. `light_sheet_ties`
+// shows that the calls meet the records which they speak of.
 ghost use mathlib.Core.Path.{_≡_};
 ghost use Rattle.light_sheet_demands.specs.Demands.{DemandOne, DemandTwo, DemandThree};
 

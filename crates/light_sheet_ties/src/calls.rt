@@ -1,6 +1,6 @@
-// The public calls, each with the record that the demands speak of for its contract: whatever a call gives and leaves is what they are about.
+// The public calls, each with its record for a contract.
 ghost use Rattle.sheet_layout.specs.Format.{node};
 ghost use Rattle.light_sheet_demands.specs.Contracts.{Check, NodeRefusal, NodeCall, SetNode, Read, FillRun};
 use surface_answers::Answer;
 
 pub fn check(sheet: &[u8]) -> u32

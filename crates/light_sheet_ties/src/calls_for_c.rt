@@ -1,6 +1,6 @@
-// The calls for C and Rust, each with the record that the demands speak of for its contract.
+// The calls for C and Rust, each with its record for a contract.
 ghost use Rattle.sheet_layout.specs.Format.{node};
 ghost use Rattle.light_sheet_demands.specs.Contracts.{Check, NodeRefusal, NodeOffset, SetNode, ReadInto, FillRun};
 
 pub fn check(sheet: &[u8]) -> u32
     ensures { λ r. ⌜ Check (now (sheet .entry)) r (now (sheet .exit)) ⌝ }

@@ -1,4 +1,4 @@
--- What `lvs_read` gives and stores is a reading's number and values: some answer has them. Assumes nothing.
+-- What `read` gives, and what `lvs_read` gives and stores, is a reading's number and values. Assumes nothing.
 use Prim.Native.Nat.{ℕ, zero, suc}
 use mathlib.Core.Path.{_≡_, sym, _∙_, ap}
 use mathlib.Core.List.{List}
@@ -12,9 +12,14 @@ use Rattle.surface_of_sheet.specs.Surface.{level, tiltX, tiltY, bendXX, bendXY,
 use Rattle.surface_of_sheet.specs.Read.{numbers, read}
 use Rattle.surface_of_sheet.proofs.Answered.{taken-is, refused-is}
 use Rattle.light_sheet_c.specs.Values.{over}
-use Rattle.light_sheet_demands.specs.Contracts.{ReadInto}
-use Rattle.light_sheet_demands.proofs.Values.{is-read}
+use Rattle.light_sheet_demands.specs.Contracts.{Read, ReadInto}
+use Rattle.light_sheet_demands.proofs.Refusals.{read-number}
 
+-- an answer's number and values are those of the reading, and the sheet is as it was
+pub is-read : {s t : List ℕ} {x y kind : ℕ} {r : Answer} → outcome r ≡ read s x y kind → t ≡ s → Read s x y kind r t
+is-read e k = record { answer = ap (λ o. o .number) e ∙ read-number _ _ _ _; values = ap (λ o. o .values) e; sheet = k }
+
+-- some answer has them
 answering : (s : List ℕ) (x y kind : ℕ) → (r : Answer) × (outcome r ≡ read s x y kind)
 unfolding outcome answered refused numbers
 answering s x y kind = elim (ℕ-discrete (readingRefusal s x y kind) 0) [
