@@ -23,7 +23,6 @@ use Rattle.light_sheet_demands.proofs.Values.{both-are}
 pub demand-three : DemandThree
 unfolding Smooth SameCorners Equal Has heightAt slopeXAt slopeYAt nodesOf jetAt exact nodeNumbers
 demand-three = record {
-  accepted = accepted-means;
   unique = uniqueness .exactly;
   fractions = fraction-laws;
   covering = covering;
@@ -37,6 +36,7 @@ demand-three = record {
   equal = λ S S′. (λ e k. same-values .everywhere (S k) (S′ k) .0 (e k), λ v k. same-values .everywhere (S k) (S′ k) .1 (v k));
   sameCorners = λ C S S′. (λ h. h, λ h. h);
   has = λ C S j. (λ h. h, λ h. h);
+  accepted = accepted-means;
   widths = the-set .widths;
   heights = the-set .heights;
   corners = λ s i j. (refl, refl, refl, refl);

@@ -173,6 +173,7 @@ abbrev pub LevelSized : ℤ → Type 0
 LevelSized z = (negℤ (pos (2 ^ 20)) <ℤ z) × (z <ℤ pos (2 ^ 20))
 
 pub record DemandTwo : Type 0 where
+  -- of accepted sheets
   pub accepted : AcceptedMeans
   -- "Level, tilt and bend at a pixel are the height and the first and second derivatives of the Sibson element of NISTIR 6718 on that pixel's cell and piece,
   -- rounded to the nearest unit by our tie rule." What a reading gives at a pixel of the mesh, over 64, 64 and 4,096, and what a run leaves
@@ -234,7 +235,6 @@ abbrev pub numbersAt : List ℕ → ℕ → ℕ → Jet ℤ
 numbersAt s i j = record { height = pos 64 *ℤ nodeAt s i j .storedHeight; xSlope = nodeAt s i j .slopeX; ySlope = nodeAt s i j .slopeY }
 
 pub record DemandThree : Type 0 where
-  pub accepted : AcceptedMeans
   -- "Take any cell, whatever its width and height, and any two sets of four cubics over it, whatever their coefficients, each set meeting along the diagonals
   -- in height and both slopes, and each with a cross-edge slope that is linear along all four edges. The two are equal, cubic by cubic, exactly when they have
   -- the same height and slopes at the four corners."
@@ -255,6 +255,7 @@ pub record DemandThree : Type 0 where
   pub has : (C : Cell) (S : FourCubics) (j : Corner → Jet ℚ) → Has C S j ↔ ((k : Piece) (c : Corner) → T (triangle k (at c)) → jet C (S k) (at c) ≋ j c)
   -- "On every accepted sheet the set we read from in each cell is the one such set that has the nodes' numbers at the corners;" The cell is as wide and high as
   -- its lines are apart, and its nodes are the four where they cross
+  pub accepted : AcceptedMeans
   pub widths : (s : List ℕ) → Accepted s → (i j : ℕ) → HasCell s i j → lineX s i + cellOf s i j .W .number ≡ lineX s (suc i)
   pub heights : (s : List ℕ) → Accepted s → (i j : ℕ) → HasCell s i j → lineY s j + cellOf s i j .H .number ≡ lineY s (suc j)
   pub corners : (s : List ℕ) (i j : ℕ) → (nodesOf s i j leftTop ≡ numbersAt s i j) × (nodesOf s i j rightTop ≡ numbersAt s (suc i) j)
