@@ -56,6 +56,7 @@ demand-two = record {
   readLevels = read-level-sized;
   runLevels = run-level-sized;
   source = λ s i j k P. sources .pieces k _ P;
+  set = λ s i j k. refl;
   turnings = turnings;
   misprints = misprints;
   derivatives = derivatives;

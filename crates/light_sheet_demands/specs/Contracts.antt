@@ -1,5 +1,5 @@
--- What each public call gives and leaves, a record for each: the contracts of crates/light_sheet and crates/light_sheet_c as the demands speak of them. In each
--- record s is the sheet that is lent and t what the call leaves of it. Assumes nothing.
+-- What the public calls of crates/light_sheet and crates/light_sheet_c give and leave, in records that the demands speak of; crates/light_sheet_ties shows that
+-- each call meets its own. In a record s is the sheet, or the slice, that is lent, and t what the sheet holds at the call's end. Assumes nothing.
 use Prim.Native.Nat.{ℕ}
 use mathlib.Core.Path.{_≡_}
 use mathlib.Core.List.{List}
@@ -36,7 +36,7 @@ pub record SetNode (s : List ℕ) (i j : ℕ) (v : Node) (n : ℕ) (t : List ℕ
   pub answer : n ≡ settingRefusal s i j v
   pub sheet : t ≡ withNode s i j v
 
--- `read` gives r
+-- `read` gives r: by the answer's definition its number and its values
 pub record Read (s : List ℕ) (x y kind : ℕ) (r : Answer) (t : List ℕ) : Type 0 where
   pub answer : outcome r .number ≡ readingRefusal s x y kind
   pub values : outcome r .values ≡ read s x y kind .values

@@ -1,5 +1,5 @@
--- The customer's three demands, sentence by sentence, of whatever the calls of crates/light_sheet, and those for C, may give and leave by their contracts. These
--- are records of Contracts. Assumes nothing.
+-- The customer's three demands, sentence by sentence. They speak of whatever the calls of crates/light_sheet, and those for C, may give and leave; the records
+-- of Contracts say what that is. Assumes nothing.
 use Prim.Native.Nat.{ℕ, suc, _+_, _*_, _^_, _≤_, _<_}
 use mathlib.Core.Path.{_≡_}
 use mathlib.Core.Logic.{_↔_, _⊎_}
@@ -15,7 +15,7 @@ use Rattle.element_sibson.specs.Fraction.{Positive, positive, ℚ, _≈_, _≤�
 use Rattle.element_sibson.specs.Cubic.{Cell, Point, Jet, Bend, value, jet, bend, _≋_}
 use Rattle.element_sibson.specs.Piece.{Piece, top, right, bottom, left, next, FourCubics, triangle, HalfDiagonal, edge, Corner, at, leftTop, rightTop, leftBottom, rightBottom}
 use Rattle.element_sibson.specs.Conditions.{Meets, SameCorners, Equal}
-use Rattle.element_sibson.specs.Element.{cornerNumbers, halved}
+use Rattle.element_sibson.specs.Element.{cornerNumbers, halved, sibson}
 use Rattle.element_sibson.specs.Sense.{FractionLaws, SameValues, Derivatives, Turnings, Straight, Linearity, Covering}
 use Rattle.element_sibson.specs.Theorems.{Has, wholes}
 use Rattle.element_nistir_6718.specs.Source as nistir
@@ -91,7 +91,7 @@ pub record DemandOne : Type 0 where
   pub keptByNodeOffset : {s t : List ℕ} {i j k : ℕ} → NodeOffset s i j k t → t ≡ s
   pub keptByReadInto : {s t : List ℕ} {x y kind n : ℕ} {array array′ : List Float} → ReadInto s x y kind array n array′ t → t ≡ s
   -- `set_node` is there to write the six bytes of a node, `fill_run` all slots of the row, and `lvs_read` as many of the array as the kind has values: one, two
-  -- or three
+  -- or three; refused, none writes
   pub sheetSize : {s t : List ℕ} {i j n : ℕ} {v : Node} → SetNode s i j v n t → length t ≡ length s
   pub beforeNode : {s t : List ℕ} {i j n : ℕ} {v : Node} → SetNode s i j v n t → (k : ℕ) → k < nodeStart s i j → byteAt t k ≡ byteAt s k
   pub afterNode : {s t : List ℕ} {i j n : ℕ} {v : Node} → SetNode s i j v n t → (k : ℕ) → nodeStart s i j + 6 ≤ k → byteAt t k ≡ byteAt s k
@@ -173,7 +173,7 @@ abbrev pub LevelSized : ℤ → Type 0
 LevelSized z = (negℤ (pos (2 ^ 20)) <ℤ z) × (z <ℤ pos (2 ^ 20))
 
 pub record DemandTwo : Type 0 where
-  -- of accepted sheets
+  -- which sheets are accepted
   pub accepted : AcceptedMeans
   -- "Level, tilt and bend at a pixel are the height and the first and second derivatives of the Sibson element of NISTIR 6718 on that pixel's cell and piece,
   -- rounded to the nearest unit by our tie rule." What a reading gives at a pixel of the mesh, over 64, 64 and 4,096, and what a run leaves
@@ -202,7 +202,8 @@ pub record DemandTwo : Type 0 where
   -- the element of NISTIR 6718: its formulas 105 to 108, put right where 01 says, for the corner numbers of each cell
   pub source : (s : List ℕ) (i j : ℕ) (k : Piece) (P : Point) →
       value (setOf s i j k) P ≈ value (halved (nistir.table k) (cornerNumbers (cellOf s i j) (nodesOf s i j))) (nistir.takenAt k P)
-  -- 01's turnings give it
+  -- "The set we read from is what the weights above, halved, and the turnings give for the cell's twelve corner numbers in grains."
+  pub set : (s : List ℕ) (i j : ℕ) (k : Piece) → setOf s i j k ≡ sibson (cornerNumbers (cellOf s i j) (nodesOf s i j)) k
   pub turnings : Turnings
   -- the print breaks its own conditions in the four terms that are put right
   pub misprints : Misprints
@@ -219,7 +220,7 @@ pub record DemandTwo : Type 0 where
   -- equal fractions round alike; equality, order and sums of fractions are what they are called
   pub alike : (x y : ℚ) → x ≈ y → rounded x ≡ rounded y
   pub fractions : FractionLaws
-  -- "A node set to new numbers reads back as those numbers." Of a height h, in steps, and slopes p and q: looked up, and read at its pixel, h in grains
+  -- "A node set to new numbers reads back as those numbers." Looked up, and read at its pixel, where a height of h steps is 64 h grains; p and q are the slopes
   pub readsBack : {s t : List ℕ} {i j : ℕ} {v : Node} → SetNode s i j v 0 t → ReadsBack i j v t
   pub nodeBack : {s t t′ : List ℕ} {i j : ℕ} {h p q : ℤ} {u r : RefT (List ℕ)} → SetNode s i j (node h p q) 0 t → now u ≡ t → NodeCall u i j r t′ →
       (decoded (now r) .storedHeight ≡ h) × (decoded (now r) .slopeX ≡ p) × (decoded (now r) .slopeY ≡ q)
@@ -246,7 +247,7 @@ pub record DemandThree : Type 0 where
   pub derivatives : Derivatives
   pub linear : Linearity
   pub sameValues : SameValues
-  -- and of sets: the conditions, equal, the same corners
+  -- and of sets: the conditions, equal sets, the same corners, and the numbers that a set has at its corners
   pub conditions : (C : Cell) (S : FourCubics) → Meets C S ↔
       (((k : Piece) (P : Point) → HalfDiagonal k P → jet C (S k) P ≋ jet C (S (next k)) P) × ((k : Piece) → Straight C k (S k)))
   pub equal : (S S′ : FourCubics) → Equal S S′ ↔ ((k : Piece) (P : Point) → value (S k) P ≈ value (S′ k) P)
