@@ -1,17 +1,17 @@
 -- The numbers that calls give, by their records: each is that of the first condition of the call's list to hold. Assumes nothing.
 use Prim.Native.Nat.{ℕ}
-use mathlib.Core.Path.{_≡_, refl, sym, subst}
-use mathlib.Core.Logic.{_↔_, _⊎_, inl, inr}
-use mathlib.Core.List.{List, [], _∷_}
-use mathlib.Core.Bool.{Bool, true, false, cond}
+use mathlib.Core.Path.{_≡_, refl}
+use mathlib.Core.Logic.{inl, inr}
+use mathlib.Core.List.{List, [], _∷_, _++_}
+use mathlib.Core.Bool.{true}
 use native.Mathlib.Decide.{ℕ-discrete}
 use lib.Dec.{T}
 use lib.IntN.{ℤ}
 use lib.ListN.{length}
 use Rattle.sheet_layout.specs.Format.{Node}
-use Rattle.sheet_calls.specs.Rules.{Rule, firstRefusal}
+use Rattle.sheet_calls.specs.Rules.{Rule, firstRefusal, Each, Fails, FirstToHold}
 use Rattle.sheet_calls.specs.Refusals.{sheetRules, checkRules, checkRefusal, lookupRules, lookupRefusal, settingRules, settingRefusal, readingRules, readingRefusal, runRules, runRefusal}
-use Rattle.sheet_calls.proofs.Rules.{Numbered, nonzero, numbered}
+use Rattle.sheet_calls.proofs.Rules.{after-failing, rule-laws, nonzero, numbered}
 use Rattle.surface_answers.specs.Answers.{outcome, answered, refused}
 use Rattle.surface_answers.specs.declared.Answer.{Answer}
 use Rattle.surface_of_sheet.specs.Read.{read}
@@ -19,29 +19,38 @@ use Rattle.surface_of_sheet.proofs.Answered.{taken-is, refused-is}
 use Rattle.light_sheet_demands.specs.Contracts.{Check, NodeRefusal, SetNode, Read, FillRun}
 use Rattle.light_sheet_demands.specs.Demands.{FirstHolds, NoneHolds, Gives, ofCheck, ofLookup, ofSetting, ofReading, ofRun, AcceptedMeans}
 
-module _ {Input : Type 0} where
-  first-holds : (rules : List (Rule Input)) (u : Input) (k : ℕ) → ¬ (k ≡ 0) → (firstRefusal rules u ≡ k) ↔ FirstHolds rules u k
-  unfolding firstRefusal
-  first-holds [] u k z = (λ e. z (sym e), λ f. absurd f)
-  first-holds (r ∷ rules) u k z = by (r .condition u) (first-holds rules u k z)
-    where
-      by : (b : Bool) → (firstRefusal rules u ≡ k) ↔ FirstHolds rules u k →
-          (cond b (r .number) (firstRefusal rules u) ≡ k) ↔ (((b ≡ true) × (r .number ≡ k)) ⊎ ((b ≡ false) × FirstHolds rules u k))
-      by true rest = (λ e. inl (refl, e), λ h. elim h [ inl a ↦ a .1 | inr b ↦ absurd (subst T (b .0) tt) ])
-      by false rest = (λ e. inr (refl, rest .0 e), λ h. elim h [ inl a ↦ absurd (subst T (sym (a .0)) tt) | inr b ↦ rest .1 (b .1) ])
+-- ---- the law of rules, in the demands' words
 
-  none-holds : (rules : List (Rule Input)) (u : Input) → Numbered rules → (firstRefusal rules u ≡ 0) ↔ NoneHolds rules u
-  unfolding firstRefusal
-  none-holds [] u h = (λ e. tt, λ f. refl)
-  none-holds (r ∷ rules) u h = by (r .condition u) (none-holds rules u (h .1))
-    where
-      by : (b : Bool) → (firstRefusal rules u ≡ 0) ↔ NoneHolds rules u → (cond b (r .number) (firstRefusal rules u) ≡ 0) ↔ ((b ≡ false) × NoneHolds rules u)
-      by true rest = (λ e. absurd (h .0 e), λ f. absurd (subst T (f .0) tt))
-      by false rest = (λ e. (refl, rest .0 e), λ f. rest .1 (f .1))
+module _ {Input : Type 0} (u : Input) where
+  behind : (before : List (Rule Input)) (r : Rule Input) (after : List (Rule Input)) (n : ℕ) → Each (Fails u) before → r .condition u ≡ true → r .number ≡ n →
+      FirstHolds (before ++ r ∷ after) u n
+  behind [] r after n f c e = inl (c, e)
+  behind (b ∷ before) r after n f c e = inr (f .0, behind before r after n (f .1) c e)
 
-  -- what rules give, whatever they are, where none has the number 0
-  gives : (rules : List (Rule Input)) (u : Input) → T (nonzero rules) → {n : ℕ} → n ≡ firstRefusal rules u → Gives rules u n
-  gives rules u h e = rw e (record { refused = first-holds rules u; taken = none-holds rules u (numbered rules h) })
+  first-holds : {rules : List (Rule Input)} {n : ℕ} → FirstToHold rules u n → FirstHolds rules u n
+  first-holds h = rw (h .listed) (behind (h .before) (h .at) (h .after) _ (h .earlier) (h .holds) (h .numbered))
+
+  first-to-hold : (rules : List (Rule Input)) (n : ℕ) → FirstHolds rules u n → FirstToHold rules u n
+  first-to-hold [] n h = absurd h
+  first-to-hold (r ∷ rules) n (inl (c, e)) = record { before = []; at = r; after = rules; listed = refl; numbered = e; holds = c; earlier = tt }
+  first-to-hold (r ∷ rules) n (inr (f, h)) = after-failing r f (first-to-hold rules n h)
+
+  none-holds : (rules : List (Rule Input)) → Each (Fails u) rules → NoneHolds rules u
+  none-holds [] f = tt
+  none-holds (r ∷ rules) f = (f .0, none-holds rules (f .1))
+
+  each-fails : (rules : List (Rule Input)) → NoneHolds rules u → Each (Fails u) rules
+  each-fails [] f = tt
+  each-fails (r ∷ rules) f = (f .0, each-fails rules (f .1))
+
+-- what rules give, whatever they are, where none has the number 0
+gives : {Input : Type 0} (rules : List (Rule Input)) (u : Input) → T (nonzero rules) → {n : ℕ} → n ≡ firstRefusal rules u → Gives rules u n
+gives rules u h e = rw e (record {
+  refused = λ k z. (λ q. first-holds u (rule-laws .thenOnly rules u k z q), λ f. rule-laws .given rules u k (first-to-hold u rules k f));
+  taken = (λ q. none-holds u rules (rule-laws .zeroOnly rules u (numbered rules h) q), λ f. rule-laws .zero rules u (each-fails u rules f));
+})
+
+-- ---- the calls
 
 pub check-gives : {s t : List ℕ} {n : ℕ} → Check s n t → Gives ofCheck s n
 unfolding nonzero sheetRules checkRules checkRefusal

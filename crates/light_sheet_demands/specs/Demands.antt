@@ -257,8 +257,8 @@ pub record DemandThree : Type 0 where
   -- "On every accepted sheet the set we read from in each cell is the one such set that has the nodes' numbers at the corners;" The cell is as wide and high as
   -- its lines are apart, and its nodes are the four where they cross
   pub accepted : AcceptedMeans
-  pub widths : (s : List ℕ) → Accepted s → (i j : ℕ) → HasCell s i j → lineX s i + cellOf s i j .W .number ≡ lineX s (suc i)
-  pub heights : (s : List ℕ) → Accepted s → (i j : ℕ) → HasCell s i j → lineY s j + cellOf s i j .H .number ≡ lineY s (suc j)
+  pub cellWidths : (s : List ℕ) → Accepted s → (i j : ℕ) → HasCell s i j → lineX s i + cellOf s i j .W .number ≡ lineX s (suc i)
+  pub cellHeights : (s : List ℕ) → Accepted s → (i j : ℕ) → HasCell s i j → lineY s j + cellOf s i j .H .number ≡ lineY s (suc j)
   pub corners : (s : List ℕ) (i j : ℕ) → (nodesOf s i j leftTop ≡ numbersAt s i j) × (nodesOf s i j rightTop ≡ numbersAt s (suc i) j)
       × (nodesOf s i j leftBottom ≡ numbersAt s i (suc j)) × (nodesOf s i j rightBottom ≡ numbersAt s (suc i) (suc j))
   pub meets : (s : List ℕ) → Accepted s → (i j : ℕ) → HasCell s i j → Meets (cellOf s i j) (setOf s i j)

@@ -21,7 +21,7 @@ module _ {Input : Type 0} where
   given : (t : List (Rule Input)) (u : Input) (n : ℕ) → FirstToHold t u n → firstRefusal t u ≡ n
   given t u n h = rw (h .listed) (first-holding (h .before) (h .at) (h .after) u (h .earlier) (h .holds) ∙ h .numbered)
 
-  after-failing : (r : Rule Input) {t : List (Rule Input)} {u : Input} {n : ℕ} → Fails u r → FirstToHold t u n → FirstToHold (r ∷ t) u n
+  pub after-failing : (r : Rule Input) {t : List (Rule Input)} {u : Input} {n : ℕ} → Fails u r → FirstToHold t u n → FirstToHold (r ∷ t) u n
   after-failing r f h = record {
     before = r ∷ h .before;
     at = h .at;

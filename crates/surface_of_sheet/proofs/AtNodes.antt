@@ -7,7 +7,7 @@ use native.Mathlib.Omega.{arith}
 use native.Mathlib.Decide.{decLt}
 use lib.Dec.{T, lit≤}
 use lib.IntN.{_*ℤ_}
-use Rattle.element_sibson.specs.Piece.{triangle, Corner, leftTop, rightTop, leftBottom, rightBottom}
+use Rattle.element_sibson.specs.Piece.{Corner, leftTop, rightTop, leftBottom, rightBottom}
 use Rattle.element_sibson.specs.Cubic.{jet, _≋_}
 use Rattle.element_sibson.specs.Theorems.{wholes}
 use Rattle.element_readings.specs.CornerWeights.{IsAt}
