@@ -5,7 +5,7 @@ use mathlib.Core.Logic.{_⊎_, inl, inr}
 use mathlib.Core.List.{List, [], _∷_}
 use native.Mathlib.Omega.{arith}
 use native.Mathlib.Decide.{decLt}
-use lib.Dec.{T, lit≤}
+use lib.Dec.{lit≤}
 use lib.IntN.{_*ℤ_}
 use Rattle.element_sibson.specs.Piece.{Corner, leftTop, rightTop, leftBottom, rightBottom}
 use Rattle.element_sibson.specs.Cubic.{jet, _≋_}
