@@ -6,7 +6,7 @@
  *
  * Of every call:
  * - Nothing is kept from one call to the next, nothing is allocated, no system call is made, errno is not touched. A call always returns. lvs_fill_run takes
- *   17 KB of stack, the others less than 1 KB.
+ *   at most LVS_RUN_STACK bytes of stack, the others at most LVS_STACK.
  * - The whole sheet is checked each time, so a sheet need not be checked first. Any bytes may be passed as a sheet: none is read behind len.
  * - A call that is refused changes no memory that it was lent. The number is that of the first condition, in the order of lvs_refusal, that holds among those
  *   that concern the call.
@@ -53,6 +53,11 @@ enum lvs_kind {
 #define LVS_MAX_SHEET 25618
 #define LVS_NODE_SIZE 6
 #define LVS_MAX_RUN 4097
+
+/* The stack that a call takes at most, in bytes: lvs_fill_run, which has a row of its own; any other call. Where memcpy and memset are bound lazily, the dynamic
+ * linker takes a few KB more at the first run of a program; linked with -z now, or statically, it takes none. */
+#define LVS_RUN_STACK 17408
+#define LVS_STACK 1024
 
 /* Checks a sheet.
  * Returns 0 where it is accepted, else 1 to 6. Writes nothing. */

@@ -38,7 +38,7 @@ extern "C" {
         x: u32,
         y: u32,
         kind: u32,
-        values: *mut f64,
+        values: *mut [f64; 3],
     ) -> u32;
 
     /// Fills a run of levels, in grains, along a row.

@@ -152,9 +152,8 @@ pub fn fill_run(sheet: &[u8], x: u32, y: u32, levels: &mut [i32]) -> Result<(), 
 /// The values of a reading; those beyond the kind's count are 0.
 fn values(sheet: &[u8], x: u32, y: u32, kind: u32) -> Result<[f64; 3], Refusal> {
     let mut values = [0.0; 3];
-    let places = values.as_mut_ptr();
     // SAFETY: the slice is lent for its whole length and only read; there are three places.
-    answer(unsafe { ffi::lvs_read(sheet.as_ptr(), sheet.len(), x, y, kind, places) })?;
+    answer(unsafe { ffi::lvs_read(sheet.as_ptr(), sheet.len(), x, y, kind, &mut values) })?;
     Ok(values)
 }
 

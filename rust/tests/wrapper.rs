@@ -106,7 +106,7 @@ fn nothing_may_be_lent_by_null() {
         assert_eq!(ffi::lvs_node_refusal(sheet, 0, 0, 0), 1);
         assert_eq!(ffi::lvs_node_offset(sheet, 0, 0, 0), 0);
         assert_eq!(ffi::lvs_set_node(sheet, 0, 0, 0, 1, 2, 3), 1);
-        assert_eq!(ffi::lvs_read(sheet, 0, 0, 0, 0, values.as_mut_ptr()), 1);
+        assert_eq!(ffi::lvs_read(sheet, 0, 0, 0, 0, &mut values), 1);
         assert_eq!(ffi::lvs_fill_run(sheet, 0, 0, 0, row, 0), 1);
         let lent = self::sheet();
         assert_eq!(ffi::lvs_fill_run(lent.as_ptr(), lent.len(), 0, 1, row, 0), 8);

@@ -1,8 +1,20 @@
--- What storing a reading's values in a lent array leaves there. Assumes nothing.
-use mathlib.Core.List.{List, [], _∷_}
+-- What storing a reading's values in a lent array leaves there. The array has words of 64 bits, and a value is stored as the bits of its float. Assumes nothing.
+use Prim.Native.Nat.{ℕ}
+use mathlib.Core.Bool.{not}
+use mathlib.Core.List.{List, [], _∷_, map}
+use lib.Dec.{T}
+use lib.Ieee.{Float, binary64, isNan, toBits}
 
--- the array with the values in its first slots; the slots behind keep what they held, all of them where there are no values
+-- the float is no NaN, so it has one pattern of bits
+abbrev pub IsNumber : Float → Type 0
+IsNumber v = T (not (isNan v))
+
+-- the 64 bits of each value
+abbrev pub bits : List Float → List ℕ
+bits values = map (toBits binary64) values
+
+-- the array with the words in its first slots; the slots behind keep what they held, all of them where there are no words
 unfoldable pub over : {A : Type 0} → List A → List A → List A
 over [] array = array
-over (v ∷ values) [] = []
-over (v ∷ values) (a ∷ array) = v ∷ over values array
+over (w ∷ words) [] = []
+over (w ∷ words) (a ∷ array) = w ∷ over words array

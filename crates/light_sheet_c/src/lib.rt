@@ -1,15 +1,15 @@
 // The calls of a light sheet for C and Rust, each thin over the call of `light_sheet` and with the same outcome: no call has a `requires`. A slice is a
 // pointer and a length in C, an array a pointer; include/light_sheet.h declares the calls.
+mod slots;
+
 ghost use mathlib.Core.Path.{_≡_};
 ghost use lib.ListN.{length};
 ghost use Rattle.sheet_layout.specs.Format.{node};
 ghost use Rattle.sheet_calls.specs.Refusals.{checkRefusal, lookupRefusal, settingRefusal, runRefusal};
 ghost use Rattle.sheet_calls.specs.Calls.{lookedUp, withNode};
-ghost use Rattle.surface_answers.specs.Answers.{outcome};
 ghost use Rattle.surface_of_sheet.specs.Read.{read};
 ghost use Rattle.surface_of_sheet.specs.Run.{filled};
-ghost use Rattle.light_sheet_c.specs.Values.{over};
-use surface_answers::Answer;
+ghost use Rattle.light_sheet_c.specs.Values.{bits, over};
 
 // Checks a sheet: 0 where it is accepted, else the number of the first of the conditions 1 to 6 that holds.
 #[no_mangle]
@@ -60,14 +60,15 @@ pub extern "C" fn lvs_set_node(
 }
 
 // Reads at the pixel (x, y) into the first slots of `values`: kind 0 the level, one slot; 1 the tilt, two; 2 the bend, three; and answers 0. The slots
-// behind keep their contents. Refused (1 to 6, 7, 9), it answers the number, and all three keep theirs.
+// behind keep their contents. Refused (1 to 6, 7, 9), it answers the number, and all three keep theirs. In C the slots are doubles; here they are their bits,
+// since a float has one NaN and a slot that is kept may hold any.
 #[no_mangle]
-pub extern "C" fn lvs_read(sheet: &[u8], x: u32, y: u32, kind: u32, values: &mut [f64; 3]) -> u32
+pub extern "C" fn lvs_read(sheet: &[u8], x: u32, y: u32, kind: u32, values: &mut [u64; 3]) -> u32
     ensures answer { λ r. ⌜ r ≡ read (now (sheet .entry)) x y kind .number ⌝ }
-    ensures values { λ r. ⌜ now (values .exit) ≡ over (read (now (sheet .entry)) x y kind .values) (now (values .entry)) ⌝ }
+    ensures values { λ r. ⌜ now (values .exit) ≡ over (bits (read (now (sheet .entry)) x y kind .values)) (now (values .entry)) ⌝ }
     ensures kept { λ r. ⌜ now (sheet .exit) ≡ now (sheet .entry) ⌝ }
 {
-    store(light_sheet::read(sheet, x, y, kind), values)
+    slots::store(light_sheet::read(sheet, x, y, kind), values)
 }
 
 // Fills the lent row with the levels at the pixel (x, y) and at those to its right, one for each slot, in grains, and answers 0; or, refused (1 to 6, 7, 8),
@@ -79,29 +80,4 @@ pub extern "C" fn lvs_fill_run(sheet: &[u8], x: u32, y: u32, levels: &mut [i32])
     ensures kept { λ r. ⌜ now (sheet .exit) ≡ now (sheet .entry) ⌝ }
 {
     light_sheet::fill_run(sheet, x, y, levels)
-}
-
-// Stores an answer's values in the first slots, and gives its number.
-fn store(answer: Answer, values: &mut [f64; 3]) -> u32
-    ensures answer { λ r. ⌜ r ≡ outcome answer .number ⌝ }
-    ensures values { λ r. ⌜ now (values .exit) ≡ over (outcome answer .values) (now (values .entry)) ⌝ }
-{
-    match answer {
-        Answer::Level(level) => {
-            values[0] = level;
-            0
-        }
-        Answer::Tilt(x, y) => {
-            values[0] = x;
-            values[1] = y;
-            0
-        }
-        Answer::Bend(xx, xy, yy) => {
-            values[0] = xx;
-            values[1] = xy;
-            values[2] = yy;
-            0
-        }
-        Answer::Refused(number) => number,
-    }
 }

@@ -12,7 +12,7 @@ use Rattle.surface_of_sheet.proofs.Runs.{run-laws}
 use Rattle.light_sheet_c.proofs.Stored.{over-size, over-behind}
 use Rattle.light_sheet_demands.specs.Demands.{DemandOne}
 use Rattle.light_sheet_demands.proofs.Refusals.{check-gives, lookup-gives, setting-gives, reading-gives, run-gives}
-use Rattle.light_sheet_demands.proofs.Readings.{refused-reading, no-values, few-values, none-stored}
+use Rattle.light_sheet_demands.proofs.Readings.{refused-reading, no-values, few-words, none-stored}
 
 pub demand-one : DemandOne
 demand-one = record {
@@ -30,7 +30,7 @@ demand-one = record {
   rowSize = λ c. rw (c .levels) (run-laws .size _ _ _ _);
   rowRefused = λ c h. c .levels ∙ run-laws .refused _ _ _ _ (λ e. h (c .answer ∙ e));
   arraySize = λ c. ap length (c .values) ∙ over-size _ _;
-  arrayBehind = λ c k l v. rw (c .values) (over-behind _ _ k (le-trans (few-values (c .isRead)) l) v);
+  arrayBehind = λ c k l w. rw (c .values) (over-behind _ _ k (le-trans (few-words (c .isRead)) l) w);
   arrayRefused = λ c h. c .values ∙ none-stored (c .isRead) (λ e. h (c .answer ∙ e));
   check = check-gives;
   lookup = lookup-gives;

@@ -1,11 +1,11 @@
 -- Demand 2, from the laws of readings and runs, of the element and of the rounding rule. Assumes nothing.
 use Prim.Native.Nat.{ℕ, suc}
 use mathlib.Core.Path.{_≡_, refl, sym, _∙_, ap}
-use mathlib.Core.List.{List}
+use mathlib.Core.List.{List, map}
 use native.Mathlib.Omega.{arith}
 use denote.Ref.{RefT, now}
 use lib.ListN.{length, take}
-use lib.Ieee.{Float}
+use lib.Ieee.{binary64, toBits}
 use Rattle.element_sibson.specs.Element.{element}
 use Rattle.element_sibson.proofs.Fractions.{fraction-laws}
 use Rattle.element_sibson.proofs.Derivatives.{derivatives}
@@ -26,14 +26,14 @@ use Rattle.light_sheet_demands.specs.Contracts.{NodeCall, SetNode, ReadI
 use Rattle.light_sheet_demands.specs.Demands.{DemandTwo}
 use Rattle.light_sheet_demands.proofs.Refusals.{accepted-means}
 use Rattle.light_sheet_demands.proofs.Values.{outcome-is, levels-are, tilts-are, bends-are, runs-are}
-use Rattle.light_sheet_demands.proofs.Readings.{all-values, pixel-held}
-use Rattle.light_sheet_demands.proofs.Sizes.{floats-are, read-level-sized, run-level-sized}
+use Rattle.light_sheet_demands.proofs.Readings.{all-words, pixel-held}
+use Rattle.light_sheet_demands.proofs.Sizes.{floats-are, patterns-are, read-level-sized, run-level-sized}
 use Rattle.light_sheet_demands.proofs.Rounding.{rounded-down, only-one, tie}
 
 -- an array of three slots has room for the values of any kind
-stored-first : {s t : List ℕ} {x y kind : ℕ} {array array′ : List Float} (c : ReadInto s x y kind array 0 array′ t) → length array ≡ 3 →
-    take (suc kind) array′ ≡ outcome (c .reading) .values
-stored-first {array} c e = let z = sym (c .answer) in let n = all-values (c .isRead) z in
+stored-first : {s t : List ℕ} {x y kind : ℕ} {array array′ : List ℕ} (c : ReadInto s x y kind array 0 array′ t) → length array ≡ 3 →
+    take (suc kind) array′ ≡ map (toBits binary64) (outcome (c .reading) .values)
+stored-first {array} c e = let z = sym (c .answer) in let n = all-words (c .isRead) z in
     rw (c .values, ← n) (over-first _ array (omega (arith, e, n, pixel-held (c .isRead) z .kind)))
 
 -- a node that was set, looked up
@@ -49,6 +49,7 @@ demand-two = record {
   bends = bends-are;
   runs = runs-are;
   arrays = stored-first;
+  patterns = patterns-are;
   answers = answer-laws;
   divisors = (refl, refl, refl);
   quotients = quotient-laws;

@@ -5,8 +5,7 @@ use mathlib.Core.List.{List, []}
 use native.Mathlib.Nat.{le-refl}
 use native.Mathlib.Decide.{ℕ-discrete}
 use native.Mathlib.Omega.{arith}
-use lib.ListN.{length}
-use lib.Ieee.{Float}
+use lib.ListN.{length, length-map}
 use Rattle.sheet_calls.specs.Refusals.{readingRefusal}
 use Rattle.sheet_calls.proofs.Chains.{HasPixel, reading-held}
 use Rattle.surface_answers.specs.Answers.{outcome, answered, refused}
@@ -15,7 +14,7 @@ use Rattle.surface_answers.specs.declared.Answer.the-variants.{Refused}
 use Rattle.surface_answers.proofs.Told.{answer-laws}
 use Rattle.surface_of_sheet.specs.Read.{numbers, read}
 use Rattle.surface_of_sheet.proofs.Answered.{taken-is, refused-is}
-use Rattle.light_sheet_c.specs.Values.{over}
+use Rattle.light_sheet_c.specs.Values.{bits, over}
 use Rattle.light_sheet_demands.specs.Contracts.{Read}
 use Rattle.light_sheet_demands.proofs.Values.{outcome-is}
 
@@ -39,7 +38,7 @@ module _ {s t : List ℕ} {x y kind : ℕ} {r : Answer} (c : Read s x y kind r t
   unfolding refused
   no-values h = ap (λ o. o .values) (refusal-is h)
 
-  pub none-stored : {array : List Float} → ¬ (outcome r .number ≡ 0) → over (outcome r .values) array ≡ array
+  pub none-stored : {array : List ℕ} → ¬ (outcome r .number ≡ 0) → over (bits (outcome r .values)) array ≡ array
   unfolding over
   none-stored h = rw (no-values h) refl
 
@@ -51,11 +50,12 @@ module _ {s t : List ℕ} {x y kind : ℕ} {r : Answer} (c : Read s x y kind r t
     pub pixel-held : HasPixel s x y kind
     pixel-held = reading-held s x y kind taken
 
-    pub all-values : length (outcome r .values) ≡ suc kind
-    all-values = ap length (c .values) ∙ value-count s x y kind taken (pixel-held .kind)
+    -- the words that are stored
+    pub all-words : length (bits (outcome r .values)) ≡ suc kind
+    all-words = length-map (outcome r .values) _ ∙ ap length (c .values) ∙ value-count s x y kind taken (pixel-held .kind)
 
-  pub few-values : length (outcome r .values) ≤ suc kind
-  few-values = elim (ℕ-discrete (outcome r .number) 0) [
-    | yes z ↦ rw (all-values z) (le-refl _)
+  pub few-words : length (bits (outcome r .values)) ≤ suc kind
+  few-words = elim (ℕ-discrete (outcome r .number) 0) [
+    | yes z ↦ rw (all-words z) (le-refl _)
     | no h ↦ rw (no-values h) (omega arith)
   ]

@@ -7,6 +7,7 @@ use native.Mathlib.Omega.{arith}
 use lib.Dec.{lit<}
 use lib.IntN.{ℤ, pos, natAbs}
 use lib.ListN.{length, getD}
+use lib.Ieee.{binary64, ofBits, toBits}
 use Rattle.integers.proofs.Polynomial.{#_, _⊗_, ⊖_}
 use Rattle.integers.proofs.Solve.{_≐_, _≼_, _≺_}
 use Rattle.integers.proofs.Deduce.{_·_, _⊨_, deduce}
@@ -15,28 +16,23 @@ use Rattle.integers.proofs.Bounds.{is-within, within-lower, within-upper}
 use Rattle.element_sibson.specs.Fraction.{positive, whole, _÷_}
 use Rattle.sheet_calls.specs.Refusals.{Accepted}
 use Rattle.sheet_calls.specs.WellFormed.{Inside}
-use Rattle.surface_answers.specs.Answers.{outcome, divisor, quotient, answered, FitsFloat}
+use Rattle.surface_answers.specs.Answers.{outcome, Every, divisor, quotient, answered, FitsFloat}
 use Rattle.surface_answers.specs.AnswerLaws.{_is_}
 use Rattle.surface_answers.specs.declared.Answer.{Answer}
+use Rattle.surface_answers.proofs.Floats.{quotient-bits}
 use Rattle.surface_answers.proofs.Quotients.{quotient-laws}
 use Rattle.surface_of_sheet.specs.Surface.{level}
 use Rattle.surface_of_sheet.specs.Read.{numbers}
 use Rattle.surface_of_sheet.proofs.Answered.{taken-is}
 use Rattle.surface_of_sheet.proofs.Runs.{run-laws}
-use Rattle.surface_of_sheet.proofs.Sizes.{level-below, small-level, small-tilts, small-bends}
+use Rattle.surface_of_sheet.proofs.EachValue.{each-value}
+use Rattle.surface_of_sheet.proofs.Sizes.{level-below, small-level}
 use Rattle.light_sheet_demands.specs.Contracts.{Read, FillRun}
-use Rattle.light_sheet_demands.specs.Demands.{Lossless, Every, LevelSized}
+use Rattle.light_sheet_demands.specs.Demands.{Lossless, LevelSized}
 use Rattle.light_sheet_demands.proofs.Readings.{no-values, taken, pixel-held}
 
 lossless : (kind : ℕ) (z : ℤ) → FitsFloat z → Lossless (divisor kind) (quotient (divisor kind) z)
 lossless kind z h = record { number = z; exact = quotient-laws .exact kind z h; zero = λ e. rw e (quotient-laws .zero kind) }
-
-each-lossless : (s : List ℕ) (x y : ℕ) → Accepted s → Inside s x y → (kind : ℕ) →
-    Every (Lossless (divisor kind)) (map (quotient (divisor kind)) (numbers s x y kind))
-unfolding numbers
-each-lossless s x y a i zero = (lossless 0 _ (small-level s x y a i), tt)
-each-lossless s x y a i (suc zero) = let (p, q) = small-tilts s x y a i in (lossless 1 _ p, (lossless 1 _ q, tt))
-each-lossless s x y a i (suc (suc k)) = let (p, q, r) = small-bends s x y a i in (lossless 2 _ p, (lossless 2 _ q, (lossless 2 _ r, tt)))
 
 sized : (z : ℤ) → natAbs z < 2 ^ 20 → LevelSized z
 sized z h =
@@ -53,11 +49,10 @@ level-of-float w z h e =
 
 module _ {s t : List ℕ} {x y kind : ℕ} {r : Answer} (c : Read s x y kind r t) where
   pub floats-are : Every (Lossless (divisor kind)) (outcome r .values)
-  unfolding answered
-  floats-are = elim (ℕ-discrete (outcome r .number) 0) [
-    | yes z ↦ let h = pixel-held c z in rw (c .values, taken-is s x y kind (taken c z)) (each-lossless s x y (h .accepted) (h .inside) kind)
-    | no h ↦ rw (no-values c h) tt
-  ]
+  floats-are = rw (c .values) (each-value (Lossless (divisor kind)) s x y kind (lossless kind))
+
+  pub patterns-are : Every (λ v. ofBits binary64 (toBits binary64 v) ≡ v) (outcome r .values)
+  patterns-are = rw (c .values) (each-value (λ v. ofBits binary64 (toBits binary64 v) ≡ v) s x y kind (λ z h. quotient-bits (divisor kind) z))
 
 pub read-level-sized : {s t : List ℕ} {x y : ℕ} {r : Answer} → Read s x y 0 r t →
     Every (λ v. (z : ℤ) → v is whole z ÷ positive 64 tt → LevelSized z) (outcome r .values)

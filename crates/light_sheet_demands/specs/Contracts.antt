@@ -6,7 +6,6 @@ use mathlib.Core.List.{List}
 use denote.Ref.{RefT, now}
 use lib.IntN.{ℤ}
 use lib.ListN.{length}
-use lib.Ieee.{Float}
 use Rattle.sheet_layout.specs.Format.{Node}
 use Rattle.sheet_calls.specs.Refusals.{checkRefusal, lookupRefusal, settingRefusal, readingRefusal, runRefusal}
 use Rattle.sheet_calls.specs.Calls.{Part, lookedUp, withNode}
@@ -14,7 +13,7 @@ use Rattle.surface_answers.specs.Answers.{outcome}
 use Rattle.surface_answers.specs.declared.Answer.{Answer}
 use Rattle.surface_of_sheet.specs.Read.{read}
 use Rattle.surface_of_sheet.specs.Run.{filled}
-use Rattle.light_sheet_c.specs.Values.{over}
+use Rattle.light_sheet_c.specs.Values.{bits, over}
 
 -- `check` gives n
 pub record Check (s : List ℕ) (n : ℕ) (t : List ℕ) : Type 0 where
@@ -55,9 +54,9 @@ pub record NodeOffset (s : List ℕ) (i j k : ℕ) (t : List ℕ) : Type 0 where
   pub answer : k ≡ lookedUp s i j .start
   pub sheet : t ≡ s
 
--- `lvs_read` on a lent array of floats gives n and leaves array′: the number and the values of a reading, these in the first slots
-pub record ReadInto (s : List ℕ) (x y kind : ℕ) (array : List Float) (n : ℕ) (array′ : List Float) (t : List ℕ) : Type 0 where
+-- `lvs_read` on a lent array of words of 64 bits gives n and leaves array′: the number and the values of a reading, the bits of these in the first slots
+pub record ReadInto (s : List ℕ) (x y kind : ℕ) (array : List ℕ) (n : ℕ) (array′ : List ℕ) (t : List ℕ) : Type 0 where
   pub reading : Answer
   pub isRead : Read s x y kind reading t
   pub answer : n ≡ outcome reading .number
-  pub values : array′ ≡ over (outcome reading .values) array
+  pub values : array′ ≡ over (bits (outcome reading .values)) array

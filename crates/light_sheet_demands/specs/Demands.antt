@@ -10,7 +10,7 @@ use lib.Dec.{T}
 use lib.IntN.{ℤ, pos, negℤ, _+ℤ_, _*ℤ_}
 use lib.Signed.{_<ℤ_}
 use lib.ListN.{length, getD, take}
-use lib.Ieee.{Float, fin}
+use lib.Ieee.{Float, fin, binary64, ofBits, toBits}
 use Rattle.element_sibson.specs.Fraction.{Positive, positive, ℚ, _≈_, _≤ℚ_, _<ℚ_, _+ℚ_, _-ℚ_, _·ℚ_, _÷_, whole, half}
 use Rattle.element_sibson.specs.Cubic.{Cell, Point, Jet, Bend, value, jet, bend, _≋_}
 use Rattle.element_sibson.specs.Piece.{Piece, top, right, bottom, left, next, FourCubics, triangle, HalfDiagonal, edge, Corner, at, leftTop, rightTop, leftBottom, rightBottom}
@@ -27,7 +27,7 @@ use Rattle.sheet_calls.specs.Rules.{Rule, rule}
 use Rattle.sheet_calls.specs.Refusals.{otherMark, otherVersion, otherCounts, otherLength, wrongLines, wrongNodes, outside, offMesh, emptyRun, otherKind, noNode, wrongNumbers, Accepted, LookupInput, SettingInput, ReadingInput, RunInput}
 use Rattle.sheet_calls.specs.WellFormed.{Inside, ConditionLaws}
 use Rattle.sheet_calls.specs.NodeLaws.{ReadsBack}
-use Rattle.surface_answers.specs.Answers.{Outcome, outcome, divisor, quotient}
+use Rattle.surface_answers.specs.Answers.{Outcome, outcome, Every, divisor, quotient}
 use Rattle.surface_answers.specs.AnswerLaws.{AnswerLaws, QuotientLaws, _is_}
 use Rattle.surface_answers.specs.declared.Answer.{Answer}
 use Rattle.surface_answers.specs.declared.Answer.the-variants as answer
@@ -89,19 +89,19 @@ pub record DemandOne : Type 0 where
   pub keptByRead : {s t : List ℕ} {x y kind : ℕ} {r : Answer} → Read s x y kind r t → t ≡ s
   pub keptByFillRun : {s t : List ℕ} {x y n : ℕ} {row row′ : List ℤ} → FillRun s x y row n row′ t → t ≡ s
   pub keptByNodeOffset : {s t : List ℕ} {i j k : ℕ} → NodeOffset s i j k t → t ≡ s
-  pub keptByReadInto : {s t : List ℕ} {x y kind n : ℕ} {array array′ : List Float} → ReadInto s x y kind array n array′ t → t ≡ s
+  pub keptByReadInto : {s t : List ℕ} {x y kind n : ℕ} {array array′ : List ℕ} → ReadInto s x y kind array n array′ t → t ≡ s
   -- `set_node` is there to write the six bytes of a node, `fill_run` all slots of the row, and `lvs_read` as many of the array as the kind has values: one, two
-  -- or three; refused, none writes
+  -- or three; refused, none writes. The array is said by its words of 64 bits, so whatever a kept slot holds, a NaN too, it keeps every bit
   pub sheetSize : {s t : List ℕ} {i j n : ℕ} {v : Node} → SetNode s i j v n t → length t ≡ length s
   pub beforeNode : {s t : List ℕ} {i j n : ℕ} {v : Node} → SetNode s i j v n t → (k : ℕ) → k < nodeStart s i j → byteAt t k ≡ byteAt s k
   pub afterNode : {s t : List ℕ} {i j n : ℕ} {v : Node} → SetNode s i j v n t → (k : ℕ) → nodeStart s i j + 6 ≤ k → byteAt t k ≡ byteAt s k
   pub sheetRefused : {s t : List ℕ} {i j n : ℕ} {v : Node} → SetNode s i j v n t → ¬ (n ≡ 0) → t ≡ s
   pub rowSize : {s t : List ℕ} {x y n : ℕ} {row row′ : List ℤ} → FillRun s x y row n row′ t → length row′ ≡ length row
   pub rowRefused : {s t : List ℕ} {x y n : ℕ} {row row′ : List ℤ} → FillRun s x y row n row′ t → ¬ (n ≡ 0) → row′ ≡ row
-  pub arraySize : {s t : List ℕ} {x y kind n : ℕ} {array array′ : List Float} → ReadInto s x y kind array n array′ t → length array′ ≡ length array
-  pub arrayBehind : {s t : List ℕ} {x y kind n : ℕ} {array array′ : List Float} → ReadInto s x y kind array n array′ t → (k : ℕ) → kind < k → (v : Float) →
-      getD array′ k v ≡ getD array k v
-  pub arrayRefused : {s t : List ℕ} {x y kind n : ℕ} {array array′ : List Float} → ReadInto s x y kind array n array′ t → ¬ (n ≡ 0) → array′ ≡ array
+  pub arraySize : {s t : List ℕ} {x y kind n : ℕ} {array array′ : List ℕ} → ReadInto s x y kind array n array′ t → length array′ ≡ length array
+  pub arrayBehind : {s t : List ℕ} {x y kind n : ℕ} {array array′ : List ℕ} → ReadInto s x y kind array n array′ t → (k : ℕ) → kind < k → (w : ℕ) →
+      getD array′ k w ≡ getD array k w
+  pub arrayRefused : {s t : List ℕ} {x y kind n : ℕ} {array array′ : List ℕ} → ReadInto s x y kind array n array′ t → ¬ (n ≡ 0) → array′ ≡ array
   -- "This holds for all input, with no reading past the lent part, no wrapped sum and no call that fails to end." No public call has a `requires`, and of
   -- every function the gate shows that it reads and writes within bounds, that no sum or product wraps and no cast loses a bit, and that it ends
 
@@ -111,7 +111,7 @@ pub record DemandOne : Type 0 where
   pub setting : {s t : List ℕ} {i j n : ℕ} {v : Node} → SetNode s i j v n t → Gives ofSetting (record { sheet = s; column = i; row = j; numbers = v }) n
   pub reading : {s t : List ℕ} {x y kind : ℕ} {r : Answer} → Read s x y kind r t →
       Gives ofReading (record { sheet = s; x = x; y = y; kind = kind }) (outcome r .number)
-  pub arrayReading : {s t : List ℕ} {x y kind n : ℕ} {array array′ : List Float} → ReadInto s x y kind array n array′ t →
+  pub arrayReading : {s t : List ℕ} {x y kind n : ℕ} {array array′ : List ℕ} → ReadInto s x y kind array n array′ t →
       Gives ofReading (record { sheet = s; x = x; y = y; kind = kind }) n
   pub run : {s t : List ℕ} {x y n : ℕ} {row row′ : List ℤ} → FillRun s x y row n row′ t →
       Gives ofRun (record { sheet = s; x = x; y = y; count = length row }) n
@@ -163,11 +163,6 @@ pub record Lossless (d : Positive) (v : Float) : Type 0 where
   pub exact : v is whole number ÷ d
   pub zero : number ≡ pos 0 → v ≡ fin false 0 (pos 0)
 
--- P of every value
-abbrev pub Every : (Float → Type 0) → List Float → Type 0
-Every P [] = Unit {0}
-Every P (v ∷ vs) = P v × Every P vs
-
 -- strictly between −2²⁰ and 2²⁰
 abbrev pub LevelSized : ℤ → Type 0
 LevelSized z = (negℤ (pos (2 ^ 20)) <ℤ z) × (z <ℤ pos (2 ^ 20))
@@ -186,9 +181,10 @@ pub record DemandTwo : Type 0 where
       (rounded (pos 64 ·ℚ pixelBend s x y .xx) ∷ rounded (pos 64 ·ℚ pixelBend s x y .xy) ∷ rounded (pos 64 ·ℚ pixelBend s x y .yy) ∷ [])
   pub runs : {s t : List ℕ} {x y : ℕ} {row row′ : List ℤ} → FillRun s x y row 0 row′ t → (k : ℕ) → k < length row →
       getD row′ k (pos 0) ≡ rounded (pixelJet s (x + k) y .height)
-  -- what a reading gives in C: its values, in the first slots of the array, one, two or three
-  pub arrays : {s t : List ℕ} {x y kind : ℕ} {array array′ : List Float} (c : ReadInto s x y kind array 0 array′ t) → length array ≡ 3 →
-      take (suc kind) array′ ≡ outcome (c .reading) .values
+  -- what a reading gives in C: the bits of its values, in the first slots of the array, one, two or three; read as floats, they are the values
+  pub arrays : {s t : List ℕ} {x y kind : ℕ} {array array′ : List ℕ} (c : ReadInto s x y kind array 0 array′ t) → length array ≡ 3 →
+      take (suc kind) array′ ≡ map (toBits binary64) (outcome (c .reading) .values)
+  pub patterns : {s t : List ℕ} {x y kind : ℕ} {r : Answer} → Read s x y kind r t → Every (λ v. ofBits binary64 (toBits binary64 v) ≡ v) (outcome r .values)
   -- which case of the answer has which number and values
   pub answers : AnswerLaws
   -- the division by 64, 64 and 4,096 "loses nothing", and 0 is +0

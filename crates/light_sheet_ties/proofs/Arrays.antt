@@ -3,7 +3,6 @@ use Prim.Native.Nat.{ℕ, zero, suc}
 use mathlib.Core.Path.{_≡_, sym, _∙_, ap}
 use mathlib.Core.List.{List}
 use native.Mathlib.Decide.{ℕ-discrete}
-use lib.Ieee.{Float}
 use Rattle.sheet_calls.specs.Refusals.{readingRefusal}
 use Rattle.surface_answers.specs.Answers.{outcome, divisor, quotient, answered, refused}
 use Rattle.surface_answers.specs.declared.Answer.{Answer}
@@ -11,7 +10,7 @@ use Rattle.surface_answers.specs.declared.Answer.the-variants.{Level, Tilt, Ben
 use Rattle.surface_of_sheet.specs.Surface.{level, tiltX, tiltY, bendXX, bendXY, bendYY}
 use Rattle.surface_of_sheet.specs.Read.{numbers, read}
 use Rattle.surface_of_sheet.proofs.Answered.{taken-is, refused-is}
-use Rattle.light_sheet_c.specs.Values.{over}
+use Rattle.light_sheet_c.specs.Values.{bits, over}
 use Rattle.light_sheet_demands.specs.Contracts.{Read, ReadInto}
 use Rattle.light_sheet_demands.proofs.Refusals.{read-number}
 
@@ -35,11 +34,11 @@ answering s x y kind = elim (ℕ-discrete (readingRefusal s x y kind) 0) [
       sym (taken-is s x y (suc (suc k)) e),
     )
 
-pub read-into : (s t : List ℕ) (x y kind : ℕ) (array : List Float) {n : ℕ} {array′ : List Float} →
-    n ≡ read s x y kind .number → array′ ≡ over (read s x y kind .values) array → t ≡ s → ReadInto s x y kind array n array′ t
+pub read-into : (s t : List ℕ) (x y kind : ℕ) (array : List ℕ) {n : ℕ} {array′ : List ℕ} →
+    n ≡ read s x y kind .number → array′ ≡ over (bits (read s x y kind .values)) array → t ≡ s → ReadInto s x y kind array n array′ t
 read-into s t x y kind array d e k = let a = answering s x y kind in let o = sym (a .1) in record {
   reading = a .0;
   isRead = is-read (a .1) k;
   answer = d ∙ ap (λ q. q .number) o;
-  values = e ∙ ap (λ q. over (q .values) array) o;
+  values = e ∙ ap (λ q. over (bits (q .values)) array) o;
 }

@@ -33,7 +33,7 @@ pub fn set_node(
     light_sheet_c::lvs_set_node(sheet, column, row, height, x_slope, y_slope)
 }
 
-pub fn read(sheet: &[u8], x: u32, y: u32, kind: u32, values: &mut [f64; 3]) -> u32
+pub fn read(sheet: &[u8], x: u32, y: u32, kind: u32, values: &mut [u64; 3]) -> u32
     ensures { λ r. ⌜ ReadInto (now (sheet .entry)) x y kind (now (values .entry)) r (now (values .exit)) (now (sheet .exit)) ⌝ }
 {
     light_sheet_c::lvs_read(sheet, x, y, kind, values)

@@ -2,7 +2,7 @@
 -- is exact. Assumes nothing.
 use Prim.Native.Nat.{ℕ, zero, suc, _+_, _-_, _*_, _≤_, _<_, _^_}
 use mathlib.Core.Path.{_≡_, refl, sym, _∙_, ap, subst, subst⁻¹}
-use mathlib.Core.Bool.{Bool, true, false}
+use mathlib.Core.Bool.{Bool, true, false, not}
 use native.Mathlib.Nat.{mul-assoc, mul-comm, mul-one, mul-pos, lt-of-lt-of-le, le-trans}
 use native.Mathlib.Omega.{arith}
 use borrow.Author.Tests.{ne-eqb}
@@ -13,9 +13,10 @@ use lib.Signed.{mag}
 use mir.Syntax.{w64}
 use mir.Val.{toZ, ofZ}
 use mir.ValLaws.{toZ-ofZ}
-use lib.Ieee.{Float, nan, inf, fin, binary64, ofInt, div, inFloat, ofBits, up, down, round, unlike}
+use lib.Ieee.{Float, nan, inf, fin, binary64, ofInt, div, inFloat, isNan, ofBits, toBits, up, down, round, unlike}
 use lib.Ieee.Exact.{HasValue, round-exact}
-use lib.Ieee.Fits.{down-pos}
+use lib.Ieee.Bits.{ofBits-toBits}
+use lib.Ieee.Fits.{down-pos, div-fits}
 use lib.Ieee.Scale.{round-same}
 use Rattle.element_sibson.specs.Fraction.{Positive}
 use Rattle.surface_answers.specs.Answers.{divisor, quotient, FitsFloat}
@@ -134,3 +135,19 @@ unfolding quotient ofInt div
 quotient-zero zero = refl
 quotient-zero (suc zero) = refl
 quotient-zero (suc (suc k)) = refl
+
+-- what has a value is no NaN
+value-number : (x : Float) (s : Bool) (n d : ℕ) → HasValue x s n d → T (not (isNan x))
+unfolding isNan
+value-number nan s n d h = absurd h
+value-number (inf t) s n d h = absurd h
+value-number (fin t m e) s n d h = tt
+
+-- so the quotient is none
+pub quotient-number : (kind : ℕ) (z : ℤ) → FitsFloat z → T (not (isNan (quotient (divisor kind) z)))
+quotient-number kind z h = value-number (quotient (divisor kind) z) _ _ _ (quotient-value kind z h)
+
+-- and its bits say it
+pub quotient-bits : (d : Positive) (z : ℤ) → ofBits binary64 (toBits binary64 (quotient d z)) ≡ quotient d z
+unfolding quotient
+quotient-bits d z = ofBits-toBits binary64 (quotient d z) (div-fits binary64 _ _)

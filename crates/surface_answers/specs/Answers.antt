@@ -18,6 +18,11 @@ outcome (Tilt x y) = record { number = 0; values = x ∷ y ∷ [] }
 outcome (Bend xx xy yy) = record { number = 0; values = xx ∷ xy ∷ yy ∷ [] }
 outcome (Refused n) = record { number = n; values = [] }
 
+-- P of every value
+abbrev pub Every : (Float → Type 0) → List Float → Type 0
+Every P [] = Unit {0}
+Every P (v ∷ vs) = P v × Every P vs
+
 -- each reading kind has a divisor of its own: kind 0 is the level, 1 the tilt, 2 the bend
 abbrev pub divisor : ℕ → Positive
 divisor zero = positive 64 tt

@@ -8,5 +8,6 @@ pub mod Touching
 pub mod Answered
 pub mod Runs
 pub mod Sizes
+pub mod EachValue
 pub mod HalfUnits
 pub mod AtNodes

@@ -8,7 +8,7 @@ use crate::call::Call;
 pub struct Places {
     pub sheet: *mut u8,
     pub len: usize,
-    pub values: *mut f64,
+    pub values: *mut [f64; 3],
     pub row: *mut i32,
 }
 

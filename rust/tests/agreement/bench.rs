@@ -3,6 +3,7 @@
 use crate::bare;
 use crate::call::{Call, Outcome, Written};
 use crate::lent::{untouchable, Lent, Place};
+use crate::patterns;
 use crate::random::Random;
 use crate::sheet::Sheet;
 use crate::tally::Tally;
@@ -66,6 +67,9 @@ impl Bench {
         self.lend_places(&call);
         let returned = if wrapped { self.make_wrapped(&call) } else { self.make_bare(&call) };
         self.expect(&outcome);
+        if let (Call::Read { .. }, false) = (call, wrapped) {
+            self.tally.count_kept(self.values.expected());
+        }
         self.judge(&call, &outcome, returned, wrapped);
         if let Written::Node { .. } = outcome.written {
             self.decoded = Sheet::decode(self.sheet.expected());
@@ -78,7 +82,10 @@ impl Bench {
         let turn = self.turns.next();
         match *call {
             Call::Read { .. } => {
-                self.values.lend(size_of::<[f64; 3]>(), Place::in_turn(turn, 8), turn)
+                self.values.lend(size_of::<[f64; 3]>(), Place::in_turn(turn, 8), turn);
+                let held = patterns::drawn(turn).map(u64::to_le_bytes);
+                self.values.expect(0, held.as_flattened());
+                self.values.restore();
             }
             Call::FillRun { count, .. } if !is_far(call) => {
                 self.row.lend(size_of::<i32>() * count, Place::in_turn(turn, 4), turn);

@@ -16,8 +16,7 @@ pub fn run(tally: &mut Tally) {
     let (values, row) = ([0.5; 3], [77; 4]);
     let (mut values_lent, mut row_lent) = (values, row);
     let sheet = holding(&bytes, len);
-    let places =
-        Places { sheet, len, values: values_lent.as_mut_ptr(), row: row_lent.as_mut_ptr() };
+    let places = Places { sheet, len, values: &mut values_lent, row: row_lent.as_mut_ptr() };
     let refused = Err(4);
     tally.count_sheet(&refused);
     for call in calls() {

@@ -18,6 +18,7 @@ mod fraction;
 mod lent;
 mod meshes;
 mod options;
+mod patterns;
 mod random;
 mod round;
 mod sheet;

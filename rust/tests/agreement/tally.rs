@@ -1,6 +1,7 @@
 //! What was compared, counted, and the differences found.
 
 use crate::call::{Call, Outcome, Written, NAMES};
+use crate::patterns;
 use crate::sheet::Sheet;
 use crate::watch;
 
@@ -22,6 +23,8 @@ pub struct Tally {
     values: u64,
     levels: u64,
     ties: [u64; 2],
+    /// NaN in slots that a bare reading keeps, signalling ones and quiet ones.
+    kept_nans: [u64; 2],
     differences: u64,
 }
 
@@ -42,6 +45,15 @@ impl Tally {
         }
         for (all, new) in self.ties.iter_mut().zip(outcome.ties) {
             *all += new;
+        }
+    }
+
+    /// Counts the NaN that must stand in an array after a bare reading: no reading is one, so they are kept.
+    pub fn count_kept(&mut self, expected: &[u8]) {
+        for slot in expected.chunks_exact(8) {
+            if let Some(kind) = patterns::nan_kind(u64::from_le_bytes(slot.try_into().unwrap())) {
+                self.kept_nans[kind] += 1;
+            }
         }
     }
 
@@ -73,6 +85,9 @@ impl Tally {
         if self.wrapped == 0 || self.levels == 0 || self.ties.contains(&0) {
             complaints.push("wrapper, levels or ties were never met".to_string());
         }
+        if self.kept_nans.contains(&0) {
+            complaints.push("no NaN of some kind was ever kept".to_string());
+        }
         complaints
     }
 
@@ -94,6 +109,8 @@ impl Tally {
         println!("single numbers compared: {}", self.call_count() + self.values + self.levels);
         println!("  of them levels in runs: {}", self.levels);
         println!("ties met: {} positive, {} negative", self.ties[1], self.ties[0]);
+        let [signalling, quiet] = self.kept_nans;
+        println!("NaN kept in arrays: {quiet} quiet, {signalling} signalling");
         println!("differences: {}", self.differences);
         println!("seconds: {seconds:.1}");
     }
