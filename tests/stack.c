@@ -1,0 +1,184 @@
+/* Makes every call on a stack of the size that light_sheet.h promises, with nothing below it that may be touched: a call that takes more ends the test.
+ * The calls are made on the longest sheet, the shortest and one for each condition on a sheet, so that each number is given that a call can give. */
+#define _GNU_SOURCE
+#include <signal.h>
+#include <stdio.h>
+#include <stdlib.h>
+#include <string.h>
+#include <sys/mman.h>
+#include <unistd.h>
+
+#include "light_sheet.h"
+
+enum { UNTOUCHABLE = 1 << 28, ROOM = 1 << 16, LONGEST_LINES = 65 };
+
+static unsigned char *lowest; /* of the stack; below it all is untouchable */
+static const char *name;      /* of the call that is made */
+static unsigned long made;
+
+static void fail(const char *why) {
+    fprintf(stderr, "stack: %s %s\n", name, why);
+    exit(1);
+}
+
+static void past_the_stack(int signal) {
+    (void)signal;
+    static const char why[] = " goes past the stack that the header promises\n";
+    if (write(2, "stack: ", 7) < 0 || write(2, name, strlen(name)) < 0 || write(2, why, sizeof why - 1) < 0) _exit(2);
+    _exit(1);
+}
+
+static void prepare(void) {
+    name = "the system";
+    unsigned char *pages = mmap(NULL, UNTOUCHABLE + ROOM, PROT_NONE, MAP_PRIVATE | MAP_ANONYMOUS | MAP_NORESERVE, -1, 0);
+    if (pages == MAP_FAILED || mprotect(pages + UNTOUCHABLE, ROOM, PROT_READ | PROT_WRITE)) fail("has no pages for a stack");
+    lowest = pages + UNTOUCHABLE;
+    static unsigned char room[1 << 16];
+    stack_t other = {.ss_sp = room, .ss_size = sizeof room};
+    struct sigaction action = {.sa_handler = past_the_stack, .sa_flags = SA_ONSTACK};
+    if (sigaltstack(&other, NULL) || sigaction(SIGSEGV, &action, NULL) || sigaction(SIGBUS, &action, NULL)) fail("takes no handler");
+}
+
+/* Calls make(call) with `size` bytes of stack. */
+static void on_stack(size_t size, void (*make)(void *), void *call) {
+    __asm__ volatile(
+        "movq %%rsp, %%rbx\n\t"
+        "movq %[top], %%rsp\n\t"
+        "callq *%[make]\n\t"
+        "movq %%rbx, %%rsp"
+        : "+D"(call)
+        : [top] "r"(lowest + size), [make] "r"(make)
+        : "rbx", "rax", "rcx", "rdx", "rsi", "r8", "r9", "r10", "r11", "xmm0", "xmm1", "xmm2", "xmm3", "xmm4", "xmm5", "xmm6", "xmm7", "xmm8", "xmm9",
+          "xmm10", "xmm11", "xmm12", "xmm13", "xmm14", "xmm15", "memory", "cc");
+    made++;
+}
+
+/* What a call takes and gives. */
+struct call {
+    uint8_t *sheet;
+    size_t len;
+    uint32_t x, y, kind;
+    int32_t height;
+    int32_t *levels;
+    size_t count;
+    double values[3];
+    size_t given;
+};
+
+static void make_check(void *of) {
+    struct call *c = of;
+    c->given = lvs_check(c->sheet, c->len);
+}
+
+static void make_node_refusal(void *of) {
+    struct call *c = of;
+    c->given = lvs_node_refusal(c->sheet, c->len, c->x, c->y);
+}
+
+static void make_node_offset(void *of) {
+    struct call *c = of;
+    c->given = lvs_node_offset(c->sheet, c->len, c->x, c->y);
+}
+
+static void make_set_node(void *of) {
+    struct call *c = of;
+    c->given = lvs_set_node(c->sheet, c->len, c->x, c->y, c->height, -7, 9);
+}
+
+static void make_read(void *of) {
+    struct call *c = of;
+    c->given = lvs_read(c->sheet, c->len, c->x, c->y, c->kind, c->values);
+}
+
+static void make_fill_run(void *of) {
+    struct call *c = of;
+    c->given = lvs_fill_run(c->sheet, c->len, c->x, c->y, c->levels, c->count);
+}
+
+static void expect(const char *called, size_t size, void (*make)(void *), struct call call, size_t given) {
+    name = called;
+    on_stack(size, make, &call);
+    if (call.given != given) fail("gives another number than it should");
+}
+
+#define EXPECT(which, size, given, ...) expect("lvs_" #which, size, make_##which, (struct call){__VA_ARGS__}, given)
+#define SHEET .sheet = sheet, .len = len
+
+/* Every call on a sheet that is refused with this number. */
+static void refused(uint8_t *sheet, size_t len, enum lvs_refusal number) {
+    static int32_t levels[4];
+    EXPECT(check, LVS_STACK, number, SHEET);
+    EXPECT(node_refusal, LVS_STACK, number, SHEET);
+    EXPECT(node_offset, LVS_STACK, 0, SHEET);
+    EXPECT(set_node, LVS_STACK, number, SHEET);
+    EXPECT(read, LVS_STACK, number, SHEET);
+    EXPECT(fill_run, LVS_RUN_STACK, number, SHEET, .levels = levels, .count = 4);
+}
+
+/* Every call on an accepted sheet with so many lines each way, the last at `last`: done, and refused by each condition of its own. */
+static void accepted(uint8_t *sheet, size_t len, uint32_t lines, uint32_t last) {
+    static int32_t levels[LVS_MAX_RUN];
+    EXPECT(check, LVS_STACK, LVS_DONE, SHEET);
+    for (uint32_t k = 0; k < lines; k++) {
+        EXPECT(node_refusal, LVS_STACK, LVS_DONE, SHEET, .x = k, .y = lines - 1 - k);
+        EXPECT(node_offset, LVS_STACK, len - LVS_NODE_SIZE * (k + 1), SHEET, .x = lines - 1 - k, .y = lines - 1);
+        EXPECT(set_node, LVS_STACK, LVS_DONE, SHEET, .x = k, .y = lines - 1 - k, .height = (int32_t)(k * k) - 2000);
+    }
+    EXPECT(node_refusal, LVS_STACK, LVS_NO_NODE, SHEET, .x = lines);
+    EXPECT(node_offset, LVS_STACK, 0, SHEET, .y = lines);
+    EXPECT(set_node, LVS_STACK, LVS_NO_NODE, SHEET, .x = lines);
+    EXPECT(set_node, LVS_STACK, LVS_NEW_NUMBERS, SHEET, .height = 4096);
+    for (uint32_t y = 0; y <= last; y += 1 + last / 97) {
+        for (uint32_t x = 0; x <= last; x += 1 + last / 89)
+            for (uint32_t kind = LVS_LEVEL; kind <= LVS_BEND; kind++) EXPECT(read, LVS_STACK, LVS_DONE, SHEET, .x = x, .y = y, .kind = kind);
+        EXPECT(fill_run, LVS_RUN_STACK, LVS_DONE, SHEET, .y = y, .levels = levels, .count = last + 1);
+        EXPECT(fill_run, LVS_RUN_STACK, LVS_DONE, SHEET, .x = y, .y = y, .levels = levels, .count = 1);
+    }
+    EXPECT(read, LVS_STACK, LVS_OUTSIDE, SHEET, .x = last + 1);
+    EXPECT(read, LVS_STACK, LVS_KIND, SHEET, .kind = LVS_BEND + 1);
+    EXPECT(fill_run, LVS_RUN_STACK, LVS_OUTSIDE, SHEET, .x = 1, .levels = levels, .count = last + 1);
+    EXPECT(fill_run, LVS_RUN_STACK, LVS_EMPTY_RUN, SHEET, .levels = levels, .count = 0);
+}
+
+static size_t word(uint8_t *sheet, size_t at, uint32_t number) {
+    sheet[at] = (uint8_t)number;
+    sheet[at + 1] = (uint8_t)(number >> 8);
+    return at + 2;
+}
+
+/* Writes a sheet with so many lines each way, `gap` apart, and gives its length. */
+static size_t write_sheet(uint8_t *sheet, uint32_t lines, uint32_t gap) {
+    memcpy(sheet, "LVS\1\0", 5);
+    sheet[5] = sheet[6] = (uint8_t)lines;
+    sheet[7] = 0;
+    size_t at = 8;
+    for (uint32_t axis = 0; axis < 2; axis++)
+        for (uint32_t k = 0; k < lines; k++) at = word(sheet, at, k * gap);
+    for (uint32_t k = 0; k < 3 * lines * lines; k++) at = word(sheet, at, k * 2654435761u % 8191 - 4095);
+    return at;
+}
+
+int main(void) {
+    static uint8_t sheet[LVS_MAX_SHEET + LVS_NODE_SIZE];
+    prepare();
+    name = "the longest sheet";
+    size_t len = write_sheet(sheet, LONGEST_LINES, 64);
+    if (len != LVS_MAX_SHEET || 64 * (LONGEST_LINES - 1) + 1 != LVS_MAX_RUN) fail("is not as long and wide as the header says");
+    accepted(sheet, len, LONGEST_LINES, LVS_MAX_RUN - 1);
+    refused(sheet, len - 1, LVS_LENGTH);
+    word(sheet, 8, 4096);
+    refused(sheet, len, LVS_LINES);
+    write_sheet(sheet, LONGEST_LINES, 64);
+    word(sheet, len - 2, 4096);
+    refused(sheet, len, LVS_NODES);
+    len = write_sheet(sheet, 2, 1);
+    accepted(sheet, len, 2, 1);
+    sheet[6] = 66;
+    refused(sheet, len, LVS_COUNTS);
+    sheet[3] = 2;
+    refused(sheet, len, LVS_VERSION);
+    sheet[0] = 'l';
+    refused(sheet, len, LVS_MARK);
+    printf("stack: %lu calls keep to %d bytes of stack, a run to %d\n", made, LVS_STACK, LVS_RUN_STACK);
+    return 0;
+}
