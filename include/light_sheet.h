@@ -54,8 +54,8 @@ enum lvs_kind {
 #define LVS_NODE_SIZE 6
 #define LVS_MAX_RUN 4097
 
-/* The stack that a call takes at most, in bytes: lvs_fill_run, which has a row of its own; any other call. Where memcpy and memset are bound lazily, the dynamic
- * linker takes a few KB more at the first run of a program; linked with -z now, or statically, it takes none. */
+/* The stack that a call takes at most, in bytes: lvs_fill_run, which has a row of its own; any other call. Where the C library is bound lazily, the dynamic
+ * linker takes a few KB more when memset is first called; with -z now, or linked statically, nothing comes on top. */
 #define LVS_RUN_STACK 17408
 #define LVS_STACK 1024
 
@@ -78,7 +78,7 @@ uint32_t lvs_set_node(uint8_t *sheet, size_t len, uint32_t column, uint32_t row,
 
 /* Reads at a pixel of the mesh; pixels on the outer lines belong to it. kind is one of lvs_kind. The values are whole numbers of grains (level, tilt) or of
  * 1/64 grain (bend), rounded to the nearest, a tie up, and divided by 64 or 4096, which a double holds exactly.
- * Returns 0, and has written the first one, two or three places of values and kept the others; or 1 to 7 or 9, and has written nothing. */
+ * Returns 0, and has written the first one, two or three places of values and kept every bit of the others; or 1 to 7 or 9, and has written nothing. */
 uint32_t lvs_read(const uint8_t *sheet, size_t len, uint32_t x, uint32_t y, uint32_t kind, double values[3]);
 
 /* Fills a run of levels along a row of pixels: place k of levels gets the level at the pixel (x + k, y), in grains, as lvs_read rounds it.

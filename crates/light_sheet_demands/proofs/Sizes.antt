@@ -1,7 +1,7 @@
--- A reading's floats are exact, a zero is +0, and levels lie strictly between −2²⁰ and 2²⁰. Assumes nothing.
-use Prim.Native.Nat.{ℕ, zero, suc, _+_, _^_, _<_}
+-- A reading's floats are exact, a zero is +0, their bits say them, and levels lie strictly between −2²⁰ and 2²⁰. Assumes nothing.
+use Prim.Native.Nat.{ℕ, _+_, _^_, _<_}
 use mathlib.Core.Path.{_≡_, sym}
-use mathlib.Core.List.{List, [], _∷_, map}
+use mathlib.Core.List.{List, [], _∷_}
 use native.Mathlib.Decide.{ℕ-discrete}
 use native.Mathlib.Omega.{arith}
 use lib.Dec.{lit<}

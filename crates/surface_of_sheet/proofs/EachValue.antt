@@ -1,6 +1,6 @@
 -- What holds of every small whole number over the divisor of a kind holds of every value of a reading of that kind. Assumes nothing.
 use Prim.Native.Nat.{ℕ, zero, suc}
-use mathlib.Core.List.{List, [], _∷_, map}
+use mathlib.Core.List.{List, map}
 use native.Mathlib.Decide.{ℕ-discrete}
 use lib.IntN.{ℤ}
 use lib.Ieee.{Float}

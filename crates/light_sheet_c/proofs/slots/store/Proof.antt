@@ -4,7 +4,7 @@ use mathlib.Core.List.{[], _∷_}
 use borrow.Author.Needs.{needs}
 use Rattle.surface_answers.specs.Answers.{outcome, Every}
 use Rattle.surface_answers.specs.declared.Answer.{Answer}
-use Rattle.light_sheet_c.specs.Values.{IsNumber, bits, over}
+use Rattle.light_sheet_c.specs.Values.{IsNumber, over}
 use Rattle.light_sheet_c.proofs.Stored.{stored}
 use Rattle.light_sheet_c.proofs.slots.store.Statement.{statement}
 use Rattle.light_sheet_c.proofs.slots.store.Tie as tie
