@@ -1,7 +1,9 @@
-/* The numbers of light_sheet.h, as the format's description has them. tests/header compiles this, and sees that no name is left out. */
-#include <assert.h>
-
+/* The numbers of light_sheet.h, as the format's description has them, and its calls in plain types. tests/header compiles this, as C and as C++, and sees that
+ * no number is left out. The header comes first, so that it brings what it needs, and twice. */
 #include "light_sheet.h"
+#include "light_sheet.h"
+
+#include <assert.h>
 
 /* refusals, 01's table */
 static_assert(LVS_DONE == 0, "not refused");
@@ -30,3 +32,17 @@ static_assert(LVS_MAX_RUN == 4097, "pixels");
 /* stack, in bytes: 17 KB and 1 KB */
 static_assert(LVS_RUN_STACK == 17408, "a row of 4,097 numbers of 32 bits, and 1 KB");
 static_assert(LVS_STACK == 1024, "1 KB");
+
+/* the calls, on x86-64 Linux: another type, or another linkage in C++, is an error */
+#ifdef __cplusplus
+extern "C" {
+#endif
+unsigned int lvs_check(const unsigned char *, unsigned long);
+unsigned int lvs_node_refusal(const unsigned char *, unsigned long, unsigned int, unsigned int);
+unsigned long lvs_node_offset(const unsigned char *, unsigned long, unsigned int, unsigned int);
+unsigned int lvs_set_node(unsigned char *, unsigned long, unsigned int, unsigned int, int, int, int);
+unsigned int lvs_read(const unsigned char *, unsigned long, unsigned int, unsigned int, unsigned int, double[3]);
+unsigned int lvs_fill_run(const unsigned char *, unsigned long, unsigned int, unsigned int, int *, unsigned long);
+#ifdef __cplusplus
+}
+#endif

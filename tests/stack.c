@@ -1,5 +1,6 @@
 /* Makes every call on a stack of the size that light_sheet.h promises, with nothing below it that may be touched: a call that takes more ends the test.
- * The calls are made on the longest sheet, the shortest and one for each condition on a sheet, so that each number is given that a call can give. */
+ * The calls are made on the longest sheet, flat and not, on the shortest, and on one for each condition on a sheet, so that each number is given that a call
+ * can give. */
 #define _GNU_SOURCE
 #include <signal.h>
 #include <stdio.h>
@@ -146,15 +147,15 @@ static size_t word(uint8_t *sheet, size_t at, uint32_t number) {
     return at + 2;
 }
 
-/* Writes a sheet with so many lines each way, `gap` apart, and gives its length. */
-static size_t write_sheet(uint8_t *sheet, uint32_t lines, uint32_t gap) {
+/* Writes a sheet with so many lines each way, `gap` apart, flat or with all sorts of numbers, and gives its length. */
+static size_t write_sheet(uint8_t *sheet, uint32_t lines, uint32_t gap, int flat) {
     memcpy(sheet, "LVS\1\0", 5);
     sheet[5] = sheet[6] = (uint8_t)lines;
     sheet[7] = 0;
     size_t at = 8;
     for (uint32_t axis = 0; axis < 2; axis++)
         for (uint32_t k = 0; k < lines; k++) at = word(sheet, at, k * gap);
-    for (uint32_t k = 0; k < 3 * lines * lines; k++) at = word(sheet, at, k * 2654435761u % 8191 - 4095);
+    for (uint32_t k = 0; k < 3 * lines * lines; k++) at = word(sheet, at, flat ? 0 : k * 2654435761u % 8191 - 4095);
     return at;
 }
 
@@ -162,16 +163,18 @@ int main(void) {
     static uint8_t sheet[LVS_MAX_SHEET + LVS_NODE_SIZE];
     prepare();
     name = "the longest sheet";
-    size_t len = write_sheet(sheet, LONGEST_LINES, 64);
+    size_t len = write_sheet(sheet, LONGEST_LINES, 64, 1);
     if (len != LVS_MAX_SHEET || 64 * (LONGEST_LINES - 1) + 1 != LVS_MAX_RUN) fail("is not as long and wide as the header says");
+    accepted(sheet, len, LONGEST_LINES, LVS_MAX_RUN - 1);
+    write_sheet(sheet, LONGEST_LINES, 64, 0);
     accepted(sheet, len, LONGEST_LINES, LVS_MAX_RUN - 1);
     refused(sheet, len - 1, LVS_LENGTH);
     word(sheet, 8, 4096);
     refused(sheet, len, LVS_LINES);
-    write_sheet(sheet, LONGEST_LINES, 64);
+    write_sheet(sheet, LONGEST_LINES, 64, 0);
     word(sheet, len - 2, 4096);
     refused(sheet, len, LVS_NODES);
-    len = write_sheet(sheet, 2, 1);
+    len = write_sheet(sheet, 2, 1, 0);
     accepted(sheet, len, 2, 1);
     sheet[6] = 66;
     refused(sheet, len, LVS_COUNTS);
