@@ -165,3 +165,23 @@ fn answer(number: u32) -> Result<(), Refusal> {
         None => panic!("the light sheet archive answered {number}, which is no refusal"),
     }
 }
+
+/// A node is borrowed from its sheet. Used after the sheet is dropped, it must not compile:
+///
+/// ```compile_fail,E0505
+/// let sheet = vec![0; 40];
+/// let node = light_sheet::node(&sheet, 0, 0);
+/// drop(sheet);
+/// assert_eq!(node, Err(light_sheet::Refusal::Mark));
+/// ```
+///
+/// Used before, it does, so the order alone is at fault above:
+///
+/// ```
+/// let sheet = vec![0; 40];
+/// let node = light_sheet::node(&sheet, 0, 0);
+/// assert_eq!(node, Err(light_sheet::Refusal::Mark));
+/// drop(sheet);
+/// ```
+#[cfg(doctest)]
+mod borrowing {}

@@ -9,27 +9,27 @@ use std::fmt;
 #[derive(Clone, Copy, Debug, PartialEq, Eq, PartialOrd, Ord, Hash)]
 #[repr(u32)]
 pub enum Refusal {
-    /// 1: fewer than 8 bytes, or another mark than `LVS`.
+    /// 1: fewer than 8 bytes, or another mark than LVS.
     Mark = 1,
     /// 2: the version is not 1.
     Version = 2,
-    /// 3: a count of lines outside 2 to 65, or byte 7 is not 0.
+    /// 3: lines of an axis not 2 to 65, or byte 7 not 0.
     Counts = 3,
-    /// 4: the length is not the one that the counts of lines call for.
+    /// 4: the length is not the one that the header states.
     Length = 4,
-    /// 5: a line does not rise, rises by more than 64, or exceeds 4,096.
+    /// 5: a line does not rise, rises by more than 64, or exceeds 4096.
     Lines = 5,
-    /// 6: a height or slope of the sheet outside −4,095 to 4,095.
+    /// 6: a height or slope outside -4095 to 4095.
     Numbers = 6,
-    /// 7: a pixel outside the mesh, or a run that ends outside it.
+    /// 7: the pixel, or the last pixel of a run, lies outside the mesh.
     Pixel = 7,
-    /// 8: an empty run.
+    /// 8: a run of no pixels.
     EmptyRun = 8,
     /// 9: a reading kind above 2.
     Kind = 9,
     /// 10: no such column or row.
     Node = 10,
-    /// 11: a new height or slope outside −4,095 to 4,095.
+    /// 11: a new height or slope outside -4095 to 4095.
     NewNumbers = 11,
 }
 

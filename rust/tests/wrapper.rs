@@ -1,6 +1,5 @@
 //! The safe wrapper's own promises, on one small sheet.
 
-use std::collections::HashSet;
 use std::error::Error;
 use std::{ptr, thread};
 
@@ -27,24 +26,113 @@ fn node_at(column: u32, row: u32) -> Node {
     Node { height: number - 4095, x_slope: 300 + number, y_slope: 4095 - number }
 }
 
+/// The refusals, their numbers and their words.
+const REFUSALS: [(Refusal, u32, &str); 11] = [
+    (Refusal::Mark, 1, "fewer than 8 bytes, or another mark than LVS"),
+    (Refusal::Version, 2, "the sheet's version is not 1"),
+    (Refusal::Counts, 3, "a count of lines is outside 2 to 65, or byte 7 is not 0"),
+    (Refusal::Length, 4, "the sheet's length is not the one its counts of lines call for"),
+    (Refusal::Lines, 5, "a line does not rise, rises by more than 64, or exceeds 4096"),
+    (Refusal::Numbers, 6, "a height or slope of the sheet is outside -4095 to 4095"),
+    (Refusal::Pixel, 7, "a pixel is outside the mesh"),
+    (Refusal::EmptyRun, 8, "the run is empty"),
+    (Refusal::Kind, 9, "the reading kind is above 2"),
+    (Refusal::Node, 10, "there is no such column or row"),
+    (Refusal::NewNumbers, 11, "a new height or slope is outside -4095 to 4095"),
+];
+
 #[test]
-fn refusals_have_their_numbers() {
-    let numbers: Vec<u32> = Refusal::ALL.iter().map(|refusal| refusal.number()).collect();
-    assert_eq!(numbers, (1..=11).collect::<Vec<u32>>());
-    for refusal in Refusal::ALL {
-        assert_eq!(Refusal::from_number(refusal.number()), Some(refusal));
-    }
-    assert_eq!(Refusal::from_number(0), None);
-    assert_eq!(Refusal::from_number(12), None);
-    assert_eq!(Refusal::from_number(u32::MAX), None);
+#[allow(clippy::type_complexity)] // Written out, they are read beside the functions.
+fn functions_have_their_types() {
+    let _: fn(&[u8]) -> Result<(), Refusal> = light_sheet::check;
+    // A node said to be `'static` passes here: `borrowing` in src/lib.rs refuses it.
+    let _: for<'a> fn(&'a [u8], u32, u32) -> Result<&'a [u8; 6], Refusal> = light_sheet::node;
+    let _: fn(&[u8], u32, u32) -> Result<Node, Refusal> = light_sheet::node_numbers;
+    let _: fn(&mut [u8], u32, u32, Node) -> Result<(), Refusal> = light_sheet::set_node;
+    let _: fn(&[u8], u32, u32) -> Result<f64, Refusal> = light_sheet::level;
+    let _: fn(&[u8], u32, u32) -> Result<[f64; 2], Refusal> = light_sheet::tilt;
+    let _: fn(&[u8], u32, u32) -> Result<[f64; 3], Refusal> = light_sheet::bend;
+    let _: fn(&[u8], u32, u32, u32) -> Result<Reading, Refusal> = light_sheet::read;
+    let _: fn(&[u8], u32, u32, &mut [i32]) -> Result<(), Refusal> = light_sheet::fill_run;
+    let _: fn(Refusal) -> u32 = Refusal::number;
+    let _: fn(u32) -> Option<Refusal> = Refusal::from_number;
 }
 
 #[test]
-fn refusals_speak_plainly() {
+fn refusals_have_their_numbers_and_words() {
+    assert_eq!(Refusal::ALL, REFUSALS.map(|(refusal, _, _)| refusal));
+    for (refusal, number, words) in REFUSALS {
+        assert_eq!(refusal.number(), number);
+        assert_eq!(refusal as u32, number);
+        assert_eq!(Refusal::from_number(number), Some(refusal));
+        assert_eq!(refusal.to_string(), format!("{words} (refusal {number})"));
+    }
+    for number in [0, 12, 257, 65_537, u32::MAX] {
+        assert_eq!(Refusal::from_number(number), None);
+    }
+}
+
+#[test]
+fn refusals_are_errors() {
     let error: Box<dyn Error + Send + Sync> = Box::new(Refusal::EmptyRun);
     assert_eq!(error.to_string(), "the run is empty (refusal 8)");
-    let texts: HashSet<String> = Refusal::ALL.iter().map(|refusal| refusal.to_string()).collect();
-    assert_eq!(texts.len(), 11);
+}
+
+#[test]
+fn damaged_sheets_are_refused_by_name() {
+    let changed = |place: usize, byte: u8| {
+        let mut bytes = sheet();
+        bytes[place] = byte;
+        bytes
+    };
+    for (mut bytes, refusal) in [
+        (sheet()[..7].to_vec(), Refusal::Mark),
+        (changed(0, b'l'), Refusal::Mark),
+        (changed(3, 2), Refusal::Version),
+        (changed(5, 1), Refusal::Counts),
+        (changed(7, 1), Refusal::Counts),
+        (sheet()[..53].to_vec(), Refusal::Length),
+        ([sheet(), vec![0]].concat(), Refusal::Length),
+        (changed(8, 2), Refusal::Lines),
+        (changed(53, 0x70), Refusal::Numbers),
+    ] {
+        assert_refused(&mut bytes, refusal);
+    }
+}
+
+/// Every call that the sheet would allow, were it whole, is refused for the sheet.
+fn assert_refused(sheet: &mut [u8], refusal: Refusal) {
+    assert_eq!(light_sheet::check(sheet), Err(refusal));
+    assert_eq!(light_sheet::node(sheet, 0, 0), Err(refusal));
+    assert_eq!(light_sheet::node_numbers(sheet, 0, 0), Err(refusal));
+    assert_eq!(light_sheet::set_node(sheet, 0, 0, Node::default()), Err(refusal));
+    assert_eq!(light_sheet::level(sheet, 0, 1), Err(refusal));
+    assert_eq!(light_sheet::tilt(sheet, 0, 1), Err(refusal));
+    assert_eq!(light_sheet::bend(sheet, 0, 1), Err(refusal));
+    assert_eq!(light_sheet::read(sheet, 0, 1, light_sheet::LEVEL), Err(refusal));
+    assert_eq!(light_sheet::fill_run(sheet, 0, 1, &mut [0; 3]), Err(refusal));
+}
+
+#[test]
+fn wrong_calls_are_refused_by_name() {
+    let mut sheet = sheet();
+    for (x, y) in [(3, 1), (0, 0), (0, 5)] {
+        assert_eq!(light_sheet::level(&sheet, x, y), Err(Refusal::Pixel));
+        assert_eq!(light_sheet::tilt(&sheet, x, y), Err(Refusal::Pixel));
+        assert_eq!(light_sheet::bend(&sheet, x, y), Err(Refusal::Pixel));
+        assert_eq!(light_sheet::read(&sheet, x, y, 3), Err(Refusal::Pixel));
+        assert_eq!(light_sheet::fill_run(&sheet, x, y, &mut [0]), Err(Refusal::Pixel));
+    }
+    assert_eq!(light_sheet::fill_run(&sheet, 0, 1, &mut [0; 4]), Err(Refusal::Pixel));
+    assert_eq!(light_sheet::fill_run(&sheet, 0, 1, &mut []), Err(Refusal::EmptyRun));
+    assert_eq!(light_sheet::read(&sheet, 0, 1, 3), Err(Refusal::Kind));
+    let (zero, high) = (Node::default(), Node { height: 4096, ..Node::default() });
+    for (column, row) in [(2, 0), (0, 3)] {
+        assert_eq!(light_sheet::node(&sheet, column, row), Err(Refusal::Node));
+        assert_eq!(light_sheet::node_numbers(&sheet, column, row), Err(Refusal::Node));
+        assert_eq!(light_sheet::set_node(&mut sheet, column, row, zero), Err(Refusal::Node));
+    }
+    assert_eq!(light_sheet::set_node(&mut sheet, 0, 0, high), Err(Refusal::NewNumbers));
 }
 
 #[test]
@@ -71,6 +159,19 @@ fn a_set_node_reads_back() {
     assert_eq!(light_sheet::tilt(&changed, 2, 4), Ok([4095.0 / 64.0, -1.0 / 64.0]));
     let node_start = changed.len() - 6;
     assert_eq!(changed[..node_start], sheet()[..node_start]);
+}
+
+#[test]
+fn every_number_goes_in_and_comes_out() {
+    let mut sheet = sheet();
+    let numbers = -4095..=4095;
+    for (number, other) in numbers.clone().zip(numbers.cycle().skip(1_000)) {
+        let node = Node { height: number, x_slope: -number, y_slope: other };
+        light_sheet::set_node(&mut sheet, 1, 1, node).unwrap();
+        let words = [number, -number, other].map(|number| (number as i16).to_le_bytes());
+        assert_eq!(light_sheet::node(&sheet, 1, 1).unwrap(), words.as_flattened());
+        assert_eq!(light_sheet::node_numbers(&sheet, 1, 1), Ok(node));
+    }
 }
 
 #[test]

@@ -4,7 +4,7 @@ use light_sheet::ffi;
 
 use crate::call::Call;
 
-/// What is lent to a bare call.
+/// What is lent to a call.
 pub struct Places {
     pub sheet: *mut u8,
     pub len: usize,

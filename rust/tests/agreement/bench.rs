@@ -1,6 +1,6 @@
 //! The bench: lends a sheet, makes calls on it, and compares all that comes of them.
 
-use crate::bare;
+use crate::bare::{self, Places};
 use crate::call::{Call, Outcome, Written};
 use crate::lent::{untouchable, Lent, Place};
 use crate::patterns;
@@ -12,8 +12,10 @@ use crate::wrapped;
 /// The longest sheet and the longest run that are lent memory one may touch.
 pub const LONGEST_SHEET: usize = 60_000;
 pub const LONGEST_RUN: usize = 70_000;
-/// The longest run at all: its count does not fit 32 bits, and its memory may not be touched.
+/// The longest run at all: its count does not fit 32 bits, and it is always refused.
 pub const FAR_RUN: usize = (1 << 32) + 10_000;
+/// Of a row that long this many places are watched: more than a run can fill.
+const FAR_WATCHED: usize = 5_000;
 /// Sheets up to this length are printed whole.
 const SHORT: usize = 200;
 
@@ -23,20 +25,24 @@ pub struct Bench {
     decoded: Result<Sheet, u32>,
     values: Lent,
     row: Lent,
-    far_row: *mut u8,
+    far_row: Lent,
+    untouchable_row: *mut u8,
     turns: Random,
     pub tally: Tally,
 }
 
 impl Bench {
     pub fn new(seed: u64) -> Bench {
+        let mut far_row = Lent::new(size_of::<i32>() * FAR_RUN);
+        far_row.lend(size_of::<i32>() * FAR_WATCHED, Place::First, seed);
         Bench {
             name: String::new(),
             sheet: Lent::new(LONGEST_SHEET),
             decoded: Err(1),
             values: Lent::new(size_of::<[f64; 3]>()),
             row: Lent::new(size_of::<i32>() * LONGEST_RUN),
-            far_row: untouchable(size_of::<i32>() * FAR_RUN),
+            far_row,
+            untouchable_row: untouchable(size_of::<i32>() * FAR_RUN),
             turns: Random::new(seed),
             tally: Tally::default(),
         }
@@ -62,10 +68,10 @@ impl Bench {
     /// Makes a call, one in four through the wrapper, and compares its answer and all lent memory.
     pub fn compare(&mut self, call: Call) -> Outcome {
         let outcome = call.outcome(&self.decoded);
-        let wrapped = self.turns.once_in(4) && !is_far(&call);
+        let wrapped = self.turns.once_in(4);
         self.sheet.allow_writing(matches!(call, Call::SetNode { .. }));
         self.lend_places(&call);
-        let returned = if wrapped { self.make_wrapped(&call) } else { self.make_bare(&call) };
+        let returned = self.make(&call, wrapped);
         self.expect(&outcome);
         if let (Call::Read { .. }, false) = (call, wrapped) {
             self.tally.count_kept(self.values.expected());
@@ -116,7 +122,8 @@ impl Bench {
         let mut lent = vec![("sheet", &self.sheet)];
         match call {
             Call::Read { .. } => lent.push(("values", &self.values)),
-            Call::FillRun { .. } if !is_far(call) => lent.push(("row", &self.row)),
+            Call::FillRun { .. } if is_far(call) => lent.push(("far row", &self.far_row)),
+            Call::FillRun { .. } => lent.push(("row", &self.row)),
             _ => {}
         }
         lent
@@ -136,6 +143,7 @@ impl Bench {
         }
         self.values.restore();
         self.row.restore();
+        self.far_row.restore();
         if !self.sheet.is_as_expected() {
             self.sheet.allow_writing(true);
             self.sheet.restore();
@@ -148,29 +156,36 @@ impl Bench {
         let memory: String = lent.filter_map(|(name, lent)| lent.difference(name)).collect();
         let (sheet, held) = (self.sheet_text(), self.held_text(call));
         let (expected, written) = (outcome.returned, written_text(&outcome.written));
+        let returned = wrapped::returned_text(returned);
         format!(
             "  sheet: {sheet}\n  expected: returns {expected}, writes {written}\n  \
              got: returns {returned}{held}\n{memory}"
         )
     }
 
-    fn make_bare(&mut self, call: &Call) -> usize {
-        let row = if is_far(call) { self.far_row } else { self.row.pointer() };
-        let places = bare::Places {
+    fn make(&mut self, call: &Call, wrapped: bool) -> usize {
+        let by_name = self.turns.once_in(2);
+        let row = match (is_far(call), wrapped) {
+            (false, _) => self.row.pointer(),
+            (true, false) => self.untouchable_row,
+            // A slice of Rust's must be of memory that may be touched, though no one does.
+            (true, true) => self.far_row.pointer(),
+        };
+        let places = Places {
             sheet: self.sheet.pointer(),
             len: self.sheet.len(),
             values: self.values.pointer().cast(),
             row: row.cast(),
         };
-        // SAFETY: all is lent in the lengths that are passed, though a far row may not be touched.
+        // SAFETY: all is lent in the lengths that are passed, though one row may not be touched.
         // The sheet may be written while a node is set.
-        unsafe { bare::make(call, &places) }
-    }
-
-    fn make_wrapped(&mut self, call: &Call) -> usize {
-        let by_name = self.turns.once_in(2);
-        let (sheet, values, row) = (&mut self.sheet, &mut self.values, &mut self.row);
-        wrapped::make(call, wrapped::Places { sheet, values, row }, by_name)
+        unsafe {
+            if wrapped {
+                wrapped::make(call, &places, by_name)
+            } else {
+                bare::make(call, &places)
+            }
+        }
     }
 
     /// What the values or a short row hold after the call.
@@ -200,7 +215,7 @@ impl Bench {
     }
 }
 
-/// Whether a run is so long that its memory may not be touched.
+/// Whether a run is so long that it has a row of its own, never filled.
 fn is_far(call: &Call) -> bool {
     matches!(call, Call::FillRun { count, .. } if *count > LONGEST_RUN)
 }

@@ -8,45 +8,75 @@ use crate::call::Call;
 use crate::lent::holding;
 use crate::random::Random;
 use crate::tally::Tally;
+use crate::wrapped;
 
-/// Makes every call on it. What it holds beyond its first bytes is too much to be watched.
+/// The sheet: it starts with the bytes of a right one, and then holds only 0.
+struct Far {
+    first_bytes: Vec<u8>,
+    sheet: *mut u8,
+    len: usize,
+}
+
+/// Makes every call on it, bare and through the wrapper, a reading by its kind's number and name.
 pub fn run(tally: &mut Tally) {
-    let bytes = boundaries::base(&mut Random::new(0)).bytes();
-    let len = (1 << 32) + bytes.len();
-    let (values, row) = ([0.5; 3], [77; 4]);
-    let (mut values_lent, mut row_lent) = (values, row);
-    let sheet = holding(&bytes, len);
-    let places = Places { sheet, len, values: &mut values_lent, row: row_lent.as_mut_ptr() };
-    let refused = Err(4);
-    tally.count_sheet(&refused);
+    let far = Far::new();
+    tally.count_sheet(&Err(4));
     for call in calls() {
-        let outcome = call.outcome(&refused);
-        // SAFETY: the sheet may be read and written in its length, and there are places enough.
-        let (returned, first_bytes) =
-            unsafe { (bare::make(&call, &places), slice::from_raw_parts(sheet, bytes.len())) };
-        tally.count_call(&call, &outcome, false);
-        let kept = first_bytes == bytes && values_lent == values && row_lent == row;
-        if returned == outcome.returned && kept {
-            continue;
-        }
-        if let Some(number) = tally.count_difference() {
-            println!(
-                "difference {number}: {call:?} on {len} bytes gave {returned}; memory kept: {kept}"
-            );
+        for (wrapped, by_name) in [(false, false), (true, false), (true, true)] {
+            far.compare(tally, &call, wrapped, by_name);
         }
     }
 }
 
-/// One of each, which would be accepted were the length right.
-fn calls() -> [Call; 6] {
+impl Far {
+    fn new() -> Far {
+        let first_bytes = boundaries::base(&mut Random::new(0)).bytes();
+        let len = (1 << 32) + first_bytes.len();
+        Far { sheet: holding(&first_bytes, len), first_bytes, len }
+    }
+
+    /// What the sheet holds beyond its first bytes is too much to be watched.
+    fn compare(&self, tally: &mut Tally, call: &Call, wrapped: bool, by_name: bool) {
+        let Far { sheet, len, .. } = *self;
+        let (values, row) = ([0.5; 3], [77; 4]);
+        let (mut values_lent, mut row_lent) = (values, row);
+        let places = Places { sheet, len, values: &mut values_lent, row: row_lent.as_mut_ptr() };
+        // SAFETY: the sheet may be read and written in its length, and there are places enough.
+        let (returned, first_bytes) = unsafe {
+            let returned = if wrapped {
+                wrapped::make(call, &places, by_name)
+            } else {
+                bare::make(call, &places)
+            };
+            (returned, slice::from_raw_parts(sheet, self.first_bytes.len()))
+        };
+        let outcome = call.outcome(&Err(4));
+        tally.count_call(call, &outcome, wrapped);
+        let kept = first_bytes == self.first_bytes && values_lent == values && row_lent == row;
+        if returned == outcome.returned && kept {
+            return;
+        }
+        if let Some(number) = tally.count_difference() {
+            let face = if wrapped { "wrapper" } else { "bare call" };
+            println!("difference {number}: {call:?} ({face}) on {len} bytes");
+            println!("  returns {}; memory kept: {kept}", wrapped::returned_text(returned));
+        }
+    }
+}
+
+/// Each, and a reading of each kind; they would be accepted were the length right.
+fn calls() -> [Call; 8] {
     let (column, row) = (1, 1);
     let (x, y) = (3, 0);
     [
         Call::Check,
         Call::NodeRefusal { column, row },
         Call::NodeOffset { column, row },
-        Call::SetNode { column, row, numbers: [1, 2, 3] },
+        Call::Read { x, y, kind: 0 },
+        Call::Read { x, y, kind: 1 },
         Call::Read { x, y, kind: 2 },
         Call::FillRun { x, y, count: 4 },
+        // Last, because a node that is set stays so.
+        Call::SetNode { column, row, numbers: [1, 2, 3] },
     ]
 }

@@ -91,7 +91,7 @@ impl Lent {
         self.restore();
     }
 
-    /// The lent part, for a bare call.
+    /// The lent part, for a call.
     pub fn pointer(&self) -> *mut u8 {
         self.base.wrapping_add(self.window + self.guard)
     }
@@ -104,12 +104,6 @@ impl Lent {
     pub fn bytes(&self) -> &[u8] {
         // SAFETY: the lent part lies inside the pages, which may be read and live on.
         unsafe { slice::from_raw_parts(self.pointer(), self.len) }
-    }
-
-    /// The lent part, to be written. It must be allowed.
-    pub fn bytes_mut(&mut self) -> &mut [u8] {
-        // SAFETY: as above, and `self` is borrowed for as long.
-        unsafe { slice::from_raw_parts_mut(self.pointer(), self.len) }
     }
 
     /// Writes down that the lent part should now hold this from `offset` on.

@@ -64,6 +64,12 @@ impl Sheet {
             .then_some(nodes_start + NODE_BYTES * (row * columns + column))
     }
 
+    /// A node's height, x-slope and y-slope.
+    pub fn numbers(&self, column: u32, row: u32) -> Option<[i16; 3]> {
+        self.node_offset(column, row)?;
+        Some(self.nodes[row as usize * self.x_lines.len() + column as usize])
+    }
+
     pub fn columns(&self) -> u32 {
         self.x_lines.len() as u32
     }

@@ -4,45 +4,68 @@ use std::slice;
 
 use light_sheet::{Node, Reading, Refusal};
 
+use crate::bare::Places;
 use crate::call::Call;
-use crate::lent::Lent;
+use crate::sheet::Sheet;
 
-/// What is lent to a call.
-pub struct Places<'a> {
-    pub sheet: &'a mut Lent,
-    pub values: &'a mut Lent,
-    pub row: &'a mut Lent,
-}
+/// Given for a node whose numbers are not those that the sheet holds; no call returns it.
+const OTHER_NUMBERS: usize = usize::MAX;
 
 /// Makes the call and gives what the bare one would return.
-pub fn make(call: &Call, places: Places, by_name: bool) -> usize {
-    let Places { sheet, values, row: levels } = places;
+///
+/// # Safety
+///
+/// As for the bare call; besides, no pointer is null, and a row may be touched in its whole length.
+pub unsafe fn make(call: &Call, places: &Places, by_name: bool) -> usize {
+    let Places { sheet: start, len, values, row: levels } = *places;
+    // SAFETY: the caller vouches for what is lent, here and below, and no one else holds it.
+    let sheet = unsafe { slice::from_raw_parts(start, len) };
     match *call {
-        Call::Check => number(light_sheet::check(sheet.bytes())),
-        Call::NodeRefusal { column, row } => {
-            number(light_sheet::node_numbers(sheet.bytes(), column, row).map(drop))
-        }
-        Call::NodeOffset { column, row } => match light_sheet::node(sheet.bytes(), column, row) {
-            Ok(bytes) => bytes.as_ptr() as usize - sheet.pointer() as usize,
+        Call::Check => number(light_sheet::check(sheet)),
+        Call::NodeRefusal { column, row } => match light_sheet::node_numbers(sheet, column, row) {
+            Ok(node) if Some(node) != decoded(sheet, column, row) => OTHER_NUMBERS,
+            answer => number(answer.map(drop)),
+        },
+        Call::NodeOffset { column, row } => match light_sheet::node(sheet, column, row) {
+            Ok(bytes) => bytes.as_ptr() as usize - start as usize,
             Err(_) => 0,
         },
         Call::SetNode { column, row, numbers: [height, x_slope, y_slope] } => {
             let node = Node { height, x_slope, y_slope };
-            number(light_sheet::set_node(sheet.bytes_mut(), column, row, node))
+            // SAFETY: this sheet may be written, and the slice made above is used no more.
+            let sheet = unsafe { slice::from_raw_parts_mut(start, len) };
+            number(light_sheet::set_node(sheet, column, row, node))
         }
         Call::Read { x, y, kind } => {
-            let reading = read(sheet.bytes(), x, y, kind, by_name);
-            for (place, value) in values.bytes_mut().chunks_exact_mut(8).zip(numbers(&reading)) {
-                place.copy_from_slice(&value.to_bits().to_le_bytes());
+            let reading = read(sheet, x, y, kind, by_name);
+            // SAFETY: there are three places.
+            let places = unsafe { &mut *values };
+            for (place, value) in places.iter_mut().zip(numbers(&reading)) {
+                *place = *value;
             }
             number(reading.map(drop))
         }
         Call::FillRun { x, y, count } => {
-            // SAFETY: the row is lent in this length, aligned, and no one else holds it.
-            let levels = unsafe { slice::from_raw_parts_mut(levels.pointer().cast(), count) };
-            number(light_sheet::fill_run(sheet.bytes(), x, y, levels))
+            // SAFETY: there are as many places, and they may be touched.
+            let levels = unsafe { slice::from_raw_parts_mut(levels, count) };
+            number(light_sheet::fill_run(sheet, x, y, levels))
         }
     }
+}
+
+/// What a call returned, to be printed.
+pub fn returned_text(returned: usize) -> String {
+    match returned {
+        OTHER_NUMBERS => String::from("other numbers than the node has"),
+        _ => returned.to_string(),
+    }
+}
+
+/// The node that the sheet holds, by the independent implementation.
+fn decoded(sheet: &[u8], column: u32, row: u32) -> Option<Node> {
+    let numbers = Sheet::decode(sheet).ok()?.numbers(column, row)?;
+    let [height, x_slope, y_slope] = numbers.map(i32::from);
+    Some(Node { height, x_slope, y_slope })
 }
 
 /// Reads by the function that has the kind's name, or by the kind's number.
