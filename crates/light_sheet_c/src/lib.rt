@@ -1,5 +1,5 @@
-// The calls of a light sheet for C and Rust, each thin over the call of `light_sheet` and with the same outcome: no call has a `requires`. A slice is a
-// pointer and a length in C, an array a pointer; include/light_sheet.h declares the calls.
+// The calls of a light sheet for C and Rust, with the outcomes of those of `light_sheet`, and all but `lvs_node_offset` thin over them: no call has a
+// `requires`. A slice is a pointer and a length in C, an array a pointer; include/light_sheet.h declares the calls.
 mod slots;
 
 ghost use mathlib.Core.Path.{_≡_};
@@ -60,8 +60,8 @@ pub extern "C" fn lvs_set_node(
 }
 
 // Reads at the pixel (x, y) into the first slots of `values`: kind 0 the level, one slot; 1 the tilt, two; 2 the bend, three; and answers 0. The slots
-// behind keep their contents. Refused (1 to 6, 7, 9), it answers the number, and all three keep theirs. In C the slots are doubles; here they are their bits,
-// since a float has one NaN and a slot that is kept may hold any.
+// behind keep their contents. Refused (1 to 6, 7, 9), it answers the number, and all three keep theirs. In C the slots are doubles; here they are their bits:
+// the floats of a contract have one NaN, and a slot that is kept may hold any.
 #[no_mangle]
 pub extern "C" fn lvs_read(sheet: &[u8], x: u32, y: u32, kind: u32, values: &mut [u64; 3]) -> u32
     ensures answer { λ r. ⌜ r ≡ read (now (sheet .entry)) x y kind .number ⌝ }
