@@ -1,4 +1,4 @@
--- What storing a reading's values in a lent array leaves there. The array has words of 64 bits, and a value is stored as the bits of its float. Assumes nothing.
+-- What storing a reading's values in a lent array leaves there. The array has words of 64 bits, and a value is stored as its float's bits. Assumes nothing.
 use Prim.Native.Nat.{ℕ}
 use mathlib.Core.Bool.{not}
 use mathlib.Core.List.{List, [], _∷_, map}

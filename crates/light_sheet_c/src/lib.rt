@@ -1,4 +1,4 @@
-// The calls of a light sheet for C and Rust, with the outcomes of those of `light_sheet`, and all but `lvs_node_offset` thin over them: no call has a
+// The calls of a light sheet for C and Rust, with the outcomes of those of `light_sheet`, and all but `lvs_node_offset` thin over them. No call has a
 // `requires`. A slice is a pointer and a length in C, an array a pointer; include/light_sheet.h declares the calls.
 mod slots;
 

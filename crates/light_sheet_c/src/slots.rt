@@ -4,7 +4,7 @@ ghost use Rattle.surface_answers.specs.Answers.{outcome, Every};
 ghost use Rattle.light_sheet_c.specs.Values.{IsNumber, bits, over};
 use surface_answers::Answer;
 
-// Stores the bits of an answer's values in the first slots, and gives its number.
+// Stores the bits of an answer's values in the first slots, and gives its number. No value is a NaN, of which `f64::to_bits` is undefined.
 pub fn store(answer: Answer, values: &mut [u64; 3]) -> u32
     requires { ⌜ Every IsNumber (outcome answer .values) ⌝ }
     ensures answer { λ r. ⌜ r ≡ outcome answer .number ⌝ }
