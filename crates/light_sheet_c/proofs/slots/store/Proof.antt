@@ -9,33 +9,33 @@ use Rattle.light_sheet_c.proofs.Stored.{stored}
 use Rattle.light_sheet_c.proofs.slots.store.Statement.{statement}
 use Rattle.light_sheet_c.proofs.slots.store.Tie as tie
 
--- the values of the case that the answer is are no NaN
-no-nan : {a b : Answer} → a ≡ b → Every IsNumber (outcome a .values) → Every IsNumber (outcome b .values)
-no-nan e h = subst (λ a. Every IsNumber (outcome a .values)) e h
+-- what the contract asks of the answer, of the case that it is
+of-case : {a b : Answer} → a ≡ b → Every IsNumber (outcome a .values) → Every IsNumber (outcome b .values)
+of-case e h = subst (λ a. Every IsNumber (outcome a .values)) e h
 
 float-to-bits-values : tie.Need-float-to-bits-values
 unfolding outcome
-float-to-bits-values c = no-nan (c .before .answer .given .1) (c .before .before .before .pre) .0
+float-to-bits-values c = of-case (c .before .answer .given .1) (c .before .before .before .pre) .0
 
 float-to-bits-values-2 : tie.Need-float-to-bits-values-2
 unfolding outcome
-float-to-bits-values-2 c = no-nan (c .before .answer2 .given .1) (c .before .before .before .pre) .0
+float-to-bits-values-2 c = of-case (c .before .answer2 .given .1) (c .before .before .before .pre) .0
 
 float-to-bits-values-3 : tie.Need-float-to-bits-values-3
 unfolding outcome
-float-to-bits-values-3 c = no-nan (c .before .answer2 .given .1) (c .before .before .before .pre) .1 .0
+float-to-bits-values-3 c = of-case (c .before .answer2 .given .1) (c .before .before .before .pre) .1 .0
 
 float-to-bits-values-4 : tie.Need-float-to-bits-values-4
 unfolding outcome
-float-to-bits-values-4 c = no-nan (c .before .answer3 .given .1) (c .before .before .before .pre) .0
+float-to-bits-values-4 c = of-case (c .before .answer3 .given .1) (c .before .before .before .pre) .0
 
 float-to-bits-values-5 : tie.Need-float-to-bits-values-5
 unfolding outcome
-float-to-bits-values-5 c = no-nan (c .before .answer3 .given .1) (c .before .before .before .pre) .1 .0
+float-to-bits-values-5 c = of-case (c .before .answer3 .given .1) (c .before .before .before .pre) .1 .0
 
 float-to-bits-values-6 : tie.Need-float-to-bits-values-6
 unfolding outcome
-float-to-bits-values-6 c = no-nan (c .before .answer3 .given .1) (c .before .before .before .pre) .1 .1 .0
+float-to-bits-values-6 c = of-case (c .before .answer3 .given .1) (c .before .before .before .pre) .1 .1 .0
 
 returns : tie.Need-returns
 unfolding outcome
