@@ -4,6 +4,7 @@ ghost use lib.ListN.{length};
 ghost use Rattle.sheet_layout.specs.Format.{node};
 ghost use Rattle.sheet_calls.specs.Refusals.{checkRefusal, lookupRefusal, settingRefusal, runRefusal};
 ghost use Rattle.sheet_calls.specs.Calls.{lookedUp, Part, withNode};
+ghost use Rattle.sheet_slopes.specs.Slopes.{slopeRefusal, withSlopes};
 ghost use Rattle.surface_answers.specs.Answers.{outcome};
 ghost use Rattle.surface_of_sheet.specs.Read.{read};
 ghost use Rattle.surface_of_sheet.specs.Run.{filled};
@@ -47,6 +48,15 @@ pub fn set_node(
     ensures sheet { λ r. ⌜ now (sheet .exit) ≡ withNode (now (sheet .entry)) column row (node height «x_slope» «y_slope») ⌝ }
 {
     sheet_nodes::set_node(sheet, column, row, height, x_slope, y_slope)
+}
+
+// Fills every slope of the sheet from its heights, with a stiffness from 0 to 64, and answers 0; or, refused (1 to 6, 12, 13), answers the number and leaves the
+// sheet as it was.
+pub fn fill_slopes(sheet: &mut [u8], stiffness: u32) -> u32
+    ensures answer { λ r. ⌜ r ≡ slopeRefusal (now (sheet .entry)) stiffness ⌝ }
+    ensures sheet { λ r. ⌜ now (sheet .exit) ≡ withSlopes (now (sheet .entry)) stiffness ⌝ }
+{
+    sheet_filling::fill_slopes(sheet, stiffness)
 }
 
 // Reads at the pixel (x, y): kind 0 is the level in steps, 1 the tilt (x, y) in steps per pixel, 2 the bend (xx, xy, yy) in steps per pixel per pixel; or

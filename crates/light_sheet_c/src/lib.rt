@@ -7,6 +7,7 @@ ghost use lib.ListN.{length};
 ghost use Rattle.sheet_layout.specs.Format.{node};
 ghost use Rattle.sheet_calls.specs.Refusals.{checkRefusal, lookupRefusal, settingRefusal, runRefusal};
 ghost use Rattle.sheet_calls.specs.Calls.{lookedUp, withNode};
+ghost use Rattle.sheet_slopes.specs.Slopes.{slopeRefusal, withSlopes};
 ghost use Rattle.surface_of_sheet.specs.Read.{read};
 ghost use Rattle.surface_of_sheet.specs.Run.{filled};
 ghost use Rattle.light_sheet_c.specs.Values.{bits, over};
@@ -57,6 +58,16 @@ pub extern "C" fn lvs_set_node(
     ensures sheet { λ r. ⌜ now (sheet .exit) ≡ withNode (now (sheet .entry)) column row (node height «x_slope» «y_slope») ⌝ }
 {
     light_sheet::set_node(sheet, column, row, height, x_slope, y_slope)
+}
+
+// Fills every slope of the sheet from its heights, with a stiffness from 0 to 64, and answers 0; or, refused (1 to 6, 12, 13), answers the number and leaves the
+// sheet as it was.
+#[no_mangle]
+pub extern "C" fn lvs_fill_slopes(sheet: &mut [u8], stiffness: u32) -> u32
+    ensures answer { λ r. ⌜ r ≡ slopeRefusal (now (sheet .entry)) stiffness ⌝ }
+    ensures sheet { λ r. ⌜ now (sheet .exit) ≡ withSlopes (now (sheet .entry)) stiffness ⌝ }
+{
+    light_sheet::fill_slopes(sheet, stiffness)
 }
 
 // Reads at the pixel (x, y) into the first slots of `values`: kind 0 the level, one slot; 1 the tilt, two; 2 the bend, three; and answers 0. The slots

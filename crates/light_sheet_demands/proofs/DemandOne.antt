@@ -8,11 +8,13 @@ use Rattle.sheet_calls.specs.Calls.{Part}
 use Rattle.sheet_calls.proofs.Conditions.{condition-laws}
 use Rattle.sheet_calls.proofs.Lookup.{lookup-laws}
 use Rattle.sheet_calls.proofs.Setting.{setting-laws}
+use Rattle.sheet_slopes.proofs.Laws.{slope-laws}
 use Rattle.surface_of_sheet.proofs.Runs.{run-laws}
 use Rattle.light_sheet_c.proofs.Stored.{over-size, over-behind}
 use Rattle.light_sheet_demands.specs.Demands.{DemandOne}
-use Rattle.light_sheet_demands.proofs.Refusals.{check-gives, lookup-gives, setting-gives, reading-gives, run-gives}
+use Rattle.light_sheet_demands.proofs.Refusals.{check-gives, lookup-gives, setting-gives, filling-gives, reading-gives, run-gives}
 use Rattle.light_sheet_demands.proofs.Readings.{refused-reading, no-values, few-words, none-stored}
+use Rattle.light_sheet_demands.proofs.Slopes.{kept}
 
 pub demand-one : DemandOne
 demand-one = record {
@@ -27,6 +29,9 @@ demand-one = record {
   beforeNode = λ c. rw (c .sheet) (setting-laws .leaves _ _ _ _ .before);
   afterNode = λ c. rw (c .sheet) (setting-laws .leaves _ _ _ _ .after);
   sheetRefused = λ c h. c .sheet ∙ setting-laws .refused _ _ _ _ (λ e. h (c .answer ∙ e));
+  slopesSize = λ c. kept c .size;
+  besideSlopes = λ c. rw (c .sheet) (slope-laws .beside _ _);
+  slopesRefused = λ c h. c .sheet ∙ slope-laws .refused _ _ (λ e. h (c .answer ∙ e));
   rowSize = λ c. rw (c .levels) (run-laws .size _ _ _ _);
   rowRefused = λ c h. c .levels ∙ run-laws .refused _ _ _ _ (λ e. h (c .answer ∙ e));
   arraySize = λ c. ap length (c .values) ∙ over-size _ _;
@@ -35,6 +40,7 @@ demand-one = record {
   check = check-gives;
   lookup = lookup-gives;
   setting = setting-gives;
+  filling = filling-gives;
   reading = reading-gives;
   arrayReading = λ c. rw (c .answer) (reading-gives (c .isRead));
   run = run-gives;

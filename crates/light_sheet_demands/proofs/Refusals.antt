@@ -12,12 +12,13 @@ use Rattle.sheet_layout.specs.Format.{Node}
 use Rattle.sheet_calls.specs.Rules.{Rule, firstRefusal, Each, Fails, FirstToHold}
 use Rattle.sheet_calls.specs.Refusals.{sheetRules, checkRules, checkRefusal, lookupRules, lookupRefusal, settingRules, settingRefusal, readingRules, readingRefusal, runRules, runRefusal}
 use Rattle.sheet_calls.proofs.Rules.{after-failing, rule-laws, nonzero, numbered}
+use Rattle.sheet_slopes.specs.Slopes.{slopeRules, slopeRefusal}
 use Rattle.surface_answers.specs.Answers.{outcome, answered, refused}
 use Rattle.surface_answers.specs.declared.Answer.{Answer}
 use Rattle.surface_of_sheet.specs.Read.{read}
 use Rattle.surface_of_sheet.proofs.Answered.{taken-is, refused-is}
-use Rattle.light_sheet_demands.specs.Contracts.{Check, NodeRefusal, SetNode, Read, FillRun}
-use Rattle.light_sheet_demands.specs.Demands.{FirstHolds, NoneHolds, Gives, ofCheck, ofLookup, ofSetting, ofReading, ofRun, AcceptedMeans}
+use Rattle.light_sheet_demands.specs.Contracts.{Check, NodeRefusal, SetNode, FillSlopes, Read, FillRun}
+use Rattle.light_sheet_demands.specs.Demands.{FirstHolds, NoneHolds, Gives, ofCheck, ofLookup, ofSetting, ofFilling, ofReading, ofRun, AcceptedMeans}
 
 -- ---- the law of rules, in the demands' words
 
@@ -63,6 +64,10 @@ lookup-gives c = gives _ _ tt (c .answer)
 pub setting-gives : {s t : List ℕ} {i j n : ℕ} {v : Node} → SetNode s i j v n t → Gives ofSetting (record { sheet = s; column = i; row = j; numbers = v }) n
 unfolding nonzero sheetRules settingRules settingRefusal
 setting-gives c = gives _ _ tt (c .answer)
+
+pub filling-gives : {s t : List ℕ} {k n : ℕ} → FillSlopes s k n t → Gives ofFilling (record { sheet = s; stiffness = k }) n
+unfolding nonzero sheetRules slopeRules slopeRefusal
+filling-gives c = gives _ _ tt (c .answer)
 
 pub reading-gives : {s t : List ℕ} {x y kind : ℕ} {r : Answer} → Read s x y kind r t →
     Gives ofReading (record { sheet = s; x = x; y = y; kind = kind }) (outcome r .number)

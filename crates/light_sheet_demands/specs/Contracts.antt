@@ -9,6 +9,7 @@ use lib.ListN.{length}
 use Rattle.sheet_layout.specs.Format.{Node}
 use Rattle.sheet_calls.specs.Refusals.{checkRefusal, lookupRefusal, settingRefusal, readingRefusal, runRefusal}
 use Rattle.sheet_calls.specs.Calls.{Part, lookedUp, withNode}
+use Rattle.sheet_slopes.specs.Slopes.{slopeRefusal, withSlopes}
 use Rattle.surface_answers.specs.Answers.{outcome}
 use Rattle.surface_answers.specs.declared.Answer.{Answer}
 use Rattle.surface_of_sheet.specs.Read.{read}
@@ -35,6 +36,11 @@ pub record SetNode (s : List ℕ) (i j : ℕ) (v : Node) (n : ℕ) (t : List ℕ
   pub answer : n ≡ settingRefusal s i j v
   pub sheet : t ≡ withNode s i j v
 
+-- `fill_slopes` with stiffness k gives n
+pub record FillSlopes (s : List ℕ) (k n : ℕ) (t : List ℕ) : Type 0 where
+  pub answer : n ≡ slopeRefusal s k
+  pub sheet : t ≡ withSlopes s k
+
 -- `read` gives r: by the answer's definition its number and its values
 pub record Read (s : List ℕ) (x y kind : ℕ) (r : Answer) (t : List ℕ) : Type 0 where
   pub answer : outcome r .number ≡ readingRefusal s x y kind
@@ -47,7 +53,7 @@ pub record FillRun (s : List ℕ) (x y : ℕ) (row : List ℤ) (n : ℕ) (row′
   pub levels : row′ ≡ filled s x y row
   pub sheet : t ≡ s
 
--- the calls for C: four meet the records above, and the two below are theirs alone
+-- the calls for C: five meet the records above, and the two below are theirs alone
 
 -- `lvs_node_offset` gives k
 pub record NodeOffset (s : List ℕ) (i j k : ℕ) (t : List ℕ) : Type 0 where

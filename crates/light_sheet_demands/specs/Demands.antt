@@ -27,6 +27,7 @@ use Rattle.sheet_calls.specs.Rules.{Rule, rule}
 use Rattle.sheet_calls.specs.Refusals.{otherMark, otherVersion, otherCounts, otherLength, wrongLines, wrongNodes, outside, offMesh, emptyRun, otherKind, noNode, wrongNumbers, Accepted, LookupInput, SettingInput, ReadingInput, RunInput}
 use Rattle.sheet_calls.specs.WellFormed.{Inside, ConditionLaws}
 use Rattle.sheet_calls.specs.NodeLaws.{ReadsBack}
+use Rattle.sheet_slopes.specs.Slopes.{tooStiff, someTooSteep, SlopeInput}
 use Rattle.surface_answers.specs.Answers.{Outcome, outcome, Every, divisor, quotient}
 use Rattle.surface_answers.specs.AnswerLaws.{AnswerLaws, QuotientLaws, _is_}
 use Rattle.surface_answers.specs.declared.Answer.{Answer}
@@ -35,7 +36,7 @@ use Rattle.surface_of_sheet.specs.Place.{cellOf, HasCell, pointAt, place}
 use Rattle.surface_of_sheet.specs.Surface.{nodesOf, setOf}
 use Rattle.surface_of_sheet.specs.Touching.{PlaceLaws}
 use Rattle.surface_of_sheet.specs.Theorems.{HalfUnitsFrom}
-use Rattle.light_sheet_demands.specs.Contracts.{Check, NodeRefusal, NodeCall, SetNode, Read, FillRun, NodeOffset, ReadInto}
+use Rattle.light_sheet_demands.specs.Contracts.{Check, NodeRefusal, NodeCall, SetNode, FillSlopes, Read, FillRun, NodeOffset, ReadInto}
 
 -- ---- demand 1
 
@@ -70,6 +71,10 @@ ofLookup = ofSheet (λ u. u .sheet) ++ rule 10 (λ u. noNode (u .sheet) (u .colu
 abbrev pub ofSetting : List (Rule SettingInput)
 ofSetting = ofSheet (λ u. u .sheet) ++ rule 10 (λ u. noNode (u .sheet) (u .column) (u .row)) ∷ rule 11 (λ u. wrongNumbers (u .numbers)) ∷ []
 
+-- 02's, of #101
+abbrev pub ofFilling : List (Rule SlopeInput)
+ofFilling = ofSheet (λ u. u .sheet) ++ rule 12 (λ u. tooStiff (u .stiffness)) ∷ rule 13 (λ u. someTooSteep (u .sheet) (u .stiffness)) ∷ []
+
 abbrev pub ofReading : List (Rule ReadingInput)
 ofReading = ofSheet (λ u. u .sheet) ++ rule 7 (λ u. outside (u .sheet) (u .x) (u .y)) ∷ rule 9 (λ u. otherKind (u .kind)) ∷ []
 
@@ -90,12 +95,17 @@ pub record DemandOne : Type 0 where
   pub keptByFillRun : {s t : List ℕ} {x y n : ℕ} {row row′ : List ℤ} → FillRun s x y row n row′ t → t ≡ s
   pub keptByNodeOffset : {s t : List ℕ} {i j k : ℕ} → NodeOffset s i j k t → t ≡ s
   pub keptByReadInto : {s t : List ℕ} {x y kind n : ℕ} {array array′ : List ℕ} → ReadInto s x y kind array n array′ t → t ≡ s
-  -- `set_node` is there to write the six bytes of a node, `fill_run` all slots of the row, and `lvs_read` as many of the array as the kind has values: one, two
-  -- or three; refused, none writes. The array is stated as words of 64 bits, so a kept slot keeps every bit, whatever it holds, a NaN too
+  -- `set_node` is there to write the six bytes of a node, `fill_slopes` the last four bytes of each, `fill_run` all slots of the row, and `lvs_read` as many of
+  -- the array as the kind has values: one, two or three; refused, none writes. The array is stated as words of 64 bits, so a kept slot keeps every bit, whatever
+  -- it holds, a NaN too
   pub sheetSize : {s t : List ℕ} {i j n : ℕ} {v : Node} → SetNode s i j v n t → length t ≡ length s
   pub beforeNode : {s t : List ℕ} {i j n : ℕ} {v : Node} → SetNode s i j v n t → (k : ℕ) → k < nodeStart s i j → byteAt t k ≡ byteAt s k
   pub afterNode : {s t : List ℕ} {i j n : ℕ} {v : Node} → SetNode s i j v n t → (k : ℕ) → nodeStart s i j + 6 ≤ k → byteAt t k ≡ byteAt s k
   pub sheetRefused : {s t : List ℕ} {i j n : ℕ} {v : Node} → SetNode s i j v n t → ¬ (n ≡ 0) → t ≡ s
+  pub slopesSize : {s t : List ℕ} {k n : ℕ} → FillSlopes s k n t → length t ≡ length s
+  pub besideSlopes : {s t : List ℕ} {k n : ℕ} → FillSlopes s k n t → (b : ℕ) →
+      ((i j c : ℕ) → i < columns s → j < rows s → c < 4 → ¬ (b ≡ nodeStart s i j + 2 + c)) → byteAt t b ≡ byteAt s b
+  pub slopesRefused : {s t : List ℕ} {k n : ℕ} → FillSlopes s k n t → ¬ (n ≡ 0) → t ≡ s
   pub rowSize : {s t : List ℕ} {x y n : ℕ} {row row′ : List ℤ} → FillRun s x y row n row′ t → length row′ ≡ length row
   pub rowRefused : {s t : List ℕ} {x y n : ℕ} {row row′ : List ℤ} → FillRun s x y row n row′ t → ¬ (n ≡ 0) → row′ ≡ row
   pub arraySize : {s t : List ℕ} {x y kind n : ℕ} {array array′ : List ℕ} → ReadInto s x y kind array n array′ t → length array′ ≡ length array
@@ -109,6 +119,7 @@ pub record DemandOne : Type 0 where
   pub check : {s t : List ℕ} {n : ℕ} → Check s n t → Gives ofCheck s n
   pub lookup : {s t : List ℕ} {i j n : ℕ} → NodeRefusal s i j n t → Gives ofLookup (record { sheet = s; column = i; row = j }) n
   pub setting : {s t : List ℕ} {i j n : ℕ} {v : Node} → SetNode s i j v n t → Gives ofSetting (record { sheet = s; column = i; row = j; numbers = v }) n
+  pub filling : {s t : List ℕ} {k n : ℕ} → FillSlopes s k n t → Gives ofFilling (record { sheet = s; stiffness = k }) n
   pub reading : {s t : List ℕ} {x y kind : ℕ} {r : Answer} → Read s x y kind r t →
       Gives ofReading (record { sheet = s; x = x; y = y; kind = kind }) (outcome r .number)
   pub arrayReading : {s t : List ℕ} {x y kind n : ℕ} {array array′ : List ℕ} → ReadInto s x y kind array n array′ t →

@@ -1,2 +1,3 @@
 pub mod Contracts
 pub mod Demands
+pub mod Slopes

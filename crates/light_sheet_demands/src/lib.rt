@@ -1,7 +1,8 @@
-// The customer's three demands, each one theorem. A theorem is the contract of a function that returns 0, so that the gate asks for its proof. `light_sheet_ties`
-// shows that the calls meet the records which they speak of.
+// The customer's three demands, and the requests of 02, each one theorem. A theorem is the contract of a function that returns 0, so that the gate asks for its
+// proof. `light_sheet_ties` shows that the calls meet the records which they speak of.
 ghost use mathlib.Core.Path.{_≡_};
 ghost use Rattle.light_sheet_demands.specs.Demands.{DemandOne, DemandTwo, DemandThree};
+ghost use Rattle.light_sheet_demands.specs.Slopes.{SlopeFilling};
 
 pub fn demand_one() -> u64
     ensures { λ r. ⌜ (r ≡ 0) × DemandOne ⌝ }
@@ -17,6 +18,12 @@ pub fn demand_two() -> u64
 
 pub fn demand_three() -> u64
     ensures { λ r. ⌜ (r ≡ 0) × DemandThree ⌝ }
+{
+    0
+}
+
+pub fn slope_filling() -> u64
+    ensures { λ r. ⌜ (r ≡ 0) × SlopeFilling ⌝ }
 {
     0
 }

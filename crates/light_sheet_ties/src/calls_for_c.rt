@@ -1,6 +1,6 @@
 // The calls for C and Rust, each with its record for a contract.
 ghost use Rattle.sheet_layout.specs.Format.{node};
-ghost use Rattle.light_sheet_demands.specs.Contracts.{Check, NodeRefusal, NodeOffset, SetNode, ReadInto, FillRun};
+ghost use Rattle.light_sheet_demands.specs.Contracts.{Check, NodeRefusal, NodeOffset, SetNode, FillSlopes, ReadInto, FillRun};
 
 pub fn check(sheet: &[u8]) -> u32
     ensures { λ r. ⌜ Check (now (sheet .entry)) r (now (sheet .exit)) ⌝ }
@@ -31,6 +31,12 @@ pub fn set_node(
     ensures { λ r. ⌜ SetNode (now (sheet .entry)) column row (node height «x_slope» «y_slope») r (now (sheet .exit)) ⌝ }
 {
     light_sheet_c::lvs_set_node(sheet, column, row, height, x_slope, y_slope)
+}
+
+pub fn fill_slopes(sheet: &mut [u8], stiffness: u32) -> u32
+    ensures { λ r. ⌜ FillSlopes (now (sheet .entry)) stiffness r (now (sheet .exit)) ⌝ }
+{
+    light_sheet_c::lvs_fill_slopes(sheet, stiffness)
 }
 
 pub fn read(sheet: &[u8], x: u32, y: u32, kind: u32, values: &mut [u64; 3]) -> u32

@@ -78,18 +78,18 @@ run-is s x y count = sheet-append _ _ _
 
 -- ---- what a call that is not refused says of its input, and the other way round
 
-cond-zero : (b : Bool) (n k : ℕ) → cond b (suc n) k ≡ 0 → (b ≡ false) × (k ≡ 0)
+pub cond-zero : (b : Bool) (n k : ℕ) → cond b (suc n) k ≡ 0 → (b ≡ false) × (k ≡ 0)
 cond-zero true n k e = absurd (omega arith)
 cond-zero false n k e = (refl, e)
 
-not-given : (b : Bool) (n : ℕ) → cond b (suc n) 0 ≡ 0 → b ≡ false
+pub not-given : (b : Bool) (n : ℕ) → cond b (suc n) 0 ≡ 0 → b ≡ false
 not-given b n e = cond-zero b n 0 e .0
 
 -- the sheet is accepted, and further rules give 0
-behind-sheet : {s : List ℕ} {rest : ℕ} → orElse (sheetRefusal s) rest ≡ 0 → Accepted s × (rest ≡ 0)
+pub behind-sheet : {s : List ℕ} {rest : ℕ} → orElse (sheetRefusal s) rest ≡ 0 → Accepted s × (rest ≡ 0)
 behind-sheet e = let h = or-zero _ _ e in (accepts (h .0), h .1)
 
-sheet-taken : {s : List ℕ} {rest : ℕ} → Accepted s → orElse (sheetRefusal s) rest ≡ rest
+pub sheet-taken : {s : List ℕ} {rest : ℕ} → Accepted s → orElse (sheetRefusal s) rest ≡ rest
 sheet-taken {s} a = zero-or (sheetRefusal s) _ (accepted-is s .1 a)
 
 pub record HasNode (s : List ℕ) (i j : ℕ) : Type 0 where

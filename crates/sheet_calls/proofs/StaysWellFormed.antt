@@ -15,7 +15,7 @@ use Rattle.sheet_layout.proofs.Written.{written, written-length, written-front,
 use Rattle.sheet_calls.specs.WellFormed.{Rising, InRange, WellFormed}
 use Rattle.sheet_calls.proofs.Ranges.{node-in-range}
 
-same-rising : (line line′ : ℕ → ℕ) (n : ℕ) → ((k : ℕ) → k < n → line′ k ≡ line k) → Rising line n → Rising line′ n
+pub same-rising : (line line′ : ℕ → ℕ) (n : ℕ) → ((k : ℕ) → k < n → line′ k ≡ line k) → Rising line n → Rising line′ n
 same-rising line line′ n same r =
     record {
       near = λ k h. rw (same k h) (r .near k h);
@@ -25,7 +25,7 @@ same-rising line line′ n same r =
 
 -- a sheet with the same bytes before the nodes, of the same length, with its nodes in range
 module _ {s t : List ℕ} (same : SameFront s t) where
-  same-well-formed : WellFormed s → length t ≡ length s → ((i j : ℕ) → i < columns s → j < rows s → InRange (nodeAt t i j)) → WellFormed t
+  pub same-well-formed : WellFormed s → length t ≡ length s → ((i j : ℕ) → i < columns s → j < rows s → InRange (nodeAt t i j)) → WellFormed t
   same-well-formed w l n =
       record {
         markL = same .bytes 0 (omega arith) ∙ w .markL;

@@ -1,7 +1,7 @@
 -- A node's numbers, as the code reads them from the sheet. Assumes nothing.
 use Prim.Native.Nat.{ℕ, _+_, _<_}
 use mathlib.Core.Path.{_≡_, sym, _∙_, ap}
-use mathlib.Core.List.{List, [], _∷_}
+use mathlib.Core.List.{List}
 use native.Mathlib.Nat.{add-zero}
 use lib.Dec.{lit<}
 use lib.IntN.{ℤ, pos, _*ℤ_}
@@ -21,9 +21,13 @@ module _ (s : List ℕ) (i j : ℕ) where
   unfolding nodeAt decoded
   node-read = λ t. node (read 0 (lit< tt) t) (read 2 (lit< tt) t) (read 4 (lit< tt) t)
 
-  pub numbers-read : heightAt s i j ∷ slopeXAt s i j ∷ slopeYAt s i j ∷ [] ≡ (pos 64 *ℤ numberAt 0) ∷ numberAt 2 ∷ numberAt 4 ∷ []
-  unfolding heightAt slopeXAt slopeYAt
-  numbers-read = ap (λ (v : Node). (pos 64 *ℤ v .storedHeight) ∷ v .slopeX ∷ v .slopeY ∷ []) node-read
+  pub height-read : heightAt s i j ≡ pos 64 *ℤ numberAt 0
+  unfolding heightAt
+  height-read = ap (λ (v : Node). pos 64 *ℤ v .storedHeight) node-read
+
+  pub slopes-read : (slopeXAt s i j ≡ numberAt 2) × (slopeYAt s i j ≡ numberAt 4)
+  unfolding slopeXAt slopeYAt
+  slopes-read = (ap (λ (v : Node). v .slopeX) node-read, ap (λ (v : Node). v .slopeY) node-read)
 
   -- a number that the code reads from where the node starts for it
   pub number-is : (k : ℕ) {n : ℕ} {r : ℤ} → n ≡ nodeOffset s i j → r ≡ signed (wordAt s (n + k)) → r ≡ numberAt k

@@ -18,7 +18,7 @@ use Rattle.sheet_layout.proofs.NodeRange.{node-in}
 
 -- ---- a number and its two bytes
 
-number-back : (z : ℤ) {N : ℕ} → z within N → N ≤ 32767 → signed (wordAt (bytesOf (bitsOf z)) 0) ≡ z
+pub number-back : (z : ℤ) {N : ℕ} → z within N → N ≤ 32767 → signed (wordAt (bytesOf (bitsOf z)) 0) ≡ z
 number-back z w h = rw (word-bytes (bitsOf z)) (signed-bits z (within-lower {N = 32768} (within-mono w (omega arith))) (within-upper (within-mono w (omega arith))))
 
 bytes-back : (b : List ℕ) (i : ℕ) → Bytes b → i + 2 ≤ length b → bytesOf (bitsOf (signed (wordAt b i))) ≡ take 2 (drop i b)

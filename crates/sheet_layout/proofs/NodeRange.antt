@@ -13,9 +13,13 @@ use Rattle.sheet_layout.proofs.Meaning.{leb-holds, and-holds}
 within-holds : (z : ℤ) (N : ℕ) → (leb (natAbs z) N ≡ true) ↔ (z within N)
 within-holds z N = let h = leb-holds (natAbs z) N in (λ e. record { bound = h .0 e }, λ w. h .1 (w .bound))
 
+pub slope-in : (z : ℤ) → (slopeIn z ≡ true) ↔ (z within steepest)
+unfolding slopeIn
+slope-in z = within-holds z steepest
+
 pub node-in : (v : Node) → (nodeIn v ≡ true) ↔ (((v .storedHeight within highest) × (v .slopeX within steepest)) × (v .slopeY within steepest))
-unfolding nodeIn heightIn slopeIn
-node-in v = and-holds (and-holds (within-holds (v .storedHeight) highest) (within-holds (v .slopeX) steepest)) (within-holds (v .slopeY) steepest)
+unfolding nodeIn heightIn
+node-in v = and-holds (and-holds (within-holds (v .storedHeight) highest) (slope-in (v .slopeX))) (slope-in (v .slopeY))
 
 -- ---- in signed code
 

@@ -3,6 +3,7 @@ use Prim.Native.Nat.{ℕ, _+_, _≤_}
 use mathlib.Core.Path.{_≡_, _∙_, ap}
 use mathlib.Core.List.{List, _++_}
 use mathlib.Core.Bool.{true}
+use native.Mathlib.Nat.{add-assoc}
 use native.Mathlib.Omega.{arith}
 use lib.ListN.{length}
 use lib.IntN.{ℤ}
@@ -13,8 +14,8 @@ use Rattle.integers.specs.Within.{_within_}
 use Rattle.integers.proofs.Bounds.{within-mono}
 use Rattle.sheet_words.specs.Word.{bitsOf, bytesOf, replaced}
 use Rattle.sheet_words.proofs.Replaced.{replaced-on}
-use Rattle.sheet_layout.specs.Format.{Node, node, nodeSize, encoded, nodeIn}
-use Rattle.sheet_layout.proofs.NodeRange.{node-in}
+use Rattle.sheet_layout.specs.Format.{Node, node, nodeSize, heightSize, slopeBytes, encoded, slopeIn, nodeIn}
+use Rattle.sheet_layout.proofs.NodeRange.{slope-in, node-in}
 
 -- numbers in range have 16 bits
 pub fit : (h x y : ℤ) → nodeIn (node h x y) ≡ true → (h within 32767) × (x within 32767) × (y within 32767)
@@ -23,11 +24,23 @@ fit h x y e =
     let wide : 4095 ≤ 32767 = omega arith in
     (within-mono a wide, within-mono b wide, within-mono c wide)
 
+pub slope-fits : (z : ℤ) → slopeIn z ≡ true → z within 32767
+slope-fits z e = within-mono (slope-in z .0 e) (omega arith)
+
 -- ---- what the code hands on: u is v as the machine reads it back
 
 pub back : {h x y : ℤ} → SFits w32 h → SFits w32 x → SFits w32 y
     → node (toZ w32 (ofZ w32 h)) (toZ w32 (ofZ w32 x)) (toZ w32 (ofZ w32 y)) ≡ node h x y
 back f g k = λ i. node (toZ-ofZ w32 _ f i) (toZ-ofZ w32 _ g i) (toZ-ofZ w32 _ k i)
+
+-- two slopes behind the height
+pub two-words : (s : List ℕ) (at : ℕ) {p q : ℤ} → SFits w32 p → SFits w32 q → {a b : ℕ} {t t₂ : List ℕ} → at + nodeSize ≤ length s
+    → a ≡ bitsOf (toZ w32 (ofZ w32 p)) → t ≡ replaced s (at + 2) (bytesOf a)
+    → b ≡ bitsOf (toZ w32 (ofZ w32 q)) → t₂ ≡ replaced t (at + 4) (bytesOf b)
+    → t₂ ≡ replaced s (at + heightSize) (slopeBytes p q)
+unfolding slopeBytes bytesOf
+two-words s at {p} {q} f g fits e k h l =
+    l ∙ rw (k, e, h, toZ-ofZ w32 p f, toZ-ofZ w32 q g, ← add-assoc at 2 2) (replaced-on s (at + 2) (bytesOf (bitsOf p)) (omega arith) (bytesOf (bitsOf q)))
 
 -- three words, one behind the other
 words-on : (s : List ℕ) (at a b c : ℕ) → at + nodeSize ≤ length s

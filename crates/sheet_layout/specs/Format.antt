@@ -96,6 +96,13 @@ decoded b = node (signed (wordAt b 0)) (signed (wordAt b 2)) (signed (wordAt b 4
 unfoldable pub encoded : Node → List ℕ
 encoded v = bytesOf (bitsOf (v .storedHeight)) ++ bytesOf (bitsOf (v .slopeX)) ++ bytesOf (bitsOf (v .slopeY))
 
+-- its height comes first and has so many bytes; behind it come the slopes, in these bytes
+abbrev pub heightSize : ℕ
+heightSize = 2
+
+unfoldable pub slopeBytes : ℤ → ℤ → List ℕ
+slopeBytes p q = bytesOf (bitsOf p) ++ bytesOf (bitsOf q)
+
 -- the largest stored height and slope, without their sign
 abbrev pub highest : ℕ
 highest = 4095
@@ -124,6 +131,10 @@ nodeOffset s i j = nodesOffset s + nodeSize * (j * columns s + i)
 -- its bytes
 abbrev pub nodeBytes : List ℕ → ℕ → ℕ → List ℕ
 nodeBytes s i j = take nodeSize (drop (nodeOffset s i j) s)
+
+-- those of its height
+abbrev pub heightBytes : List ℕ → ℕ → ℕ → List ℕ
+heightBytes s i j = take heightSize (drop (nodeOffset s i j) s)
 
 -- its numbers
 unfoldable pub nodeAt : List ℕ → ℕ → ℕ → Node

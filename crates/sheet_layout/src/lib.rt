@@ -6,10 +6,11 @@ pub mod theorems;
 ghost use mathlib.Core.Path.{_≡_};
 ghost use mathlib.Core.List.{[], _∷_};
 ghost use mathlib.Core.Bool.{true};
-ghost use Prim.Native.Nat.{_+_, _*_, _≤_, _<_};
+ghost use Prim.Native.Nat.{_+_, _*_, _^_, _≤_, _<_};
 ghost use lib.ListN.{length};
+ghost use Rattle.integers.specs.Within.{_within_};
 ghost use Rattle.sheet_words.specs.Word.{replaced};
-ghost use Rattle.sheet_layout.specs.Format.{headerSize, columns, rows, yLinesOffset, lineFrom, lineX, lineY, node, encoded, nodeIn, nodeSize, nodesOffset, nodeOffset, statedSize, heightAt, slopeXAt, slopeYAt};
+ghost use Rattle.sheet_layout.specs.Format.{headerSize, columns, rows, yLinesOffset, lineFrom, lineX, lineY, node, encoded, nodeSize, heightSize, slopeBytes, slopeIn, nodeIn, nodesOffset, nodeOffset, statedSize, heightAt, slopeXAt, slopeYAt};
 use header::HEADER_SIZE;
 use header::columns;
 use header::rows;
@@ -88,14 +89,22 @@ pub fn node_offset(sheet: &[u8], column: usize, row: usize) -> usize
     nodes_offset(sheet) + NODE_SIZE * (row * columns(sheet) + column)
 }
 
-// A node's height in grains, 64 to a step, and its slopes in grains per pixel.
+// A node's height in grains, 64 to a step.
+pub fn height(sheet: &[u8], column: usize, row: usize) -> i64
+    requires { ⌜ (statedSize (now sheet) ≤ length (now sheet)) × (column < columns (now sheet)) × (row < rows (now sheet)) ⌝ }
+    ensures { λ r. ⌜ (r ≡ heightAt (now (sheet .entry)) column row) × (r within (2 ^ 21)) ⌝ }
+{
+    64 * signed_word(sheet, node_offset(sheet, column, row))
+}
+
+// A node's height in grains and its slopes in grains per pixel.
 pub fn node_numbers(sheet: &[u8], column: usize, row: usize) -> [i64; 3]
     requires { ⌜ (statedSize (now sheet) ≤ length (now sheet)) × (column < columns (now sheet)) × (row < rows (now sheet)) ⌝ }
     ensures { λ r. ⌜ r ≡ heightAt (now (sheet .entry)) column row ∷ slopeXAt (now (sheet .entry)) column row ∷ slopeYAt (now (sheet .entry)) column row ∷ [] ⌝ }
 {
     let at = node_offset(sheet, column, row);
     [
-        64 * signed_word(sheet, at),
+        height(sheet, column, row),
         signed_word(sheet, at + 2),
         signed_word(sheet, at + 4),
     ]
@@ -108,6 +117,15 @@ pub fn put_node(sheet: &mut [u8], at: usize, height: i32, x_slope: i32, y_slope:
     ensures { λ _. ⌜ now (sheet .exit) ≡ replaced (now (sheet .entry)) at (encoded (node height «x_slope» «y_slope»)) ⌝ }
 {
     put_word(sheet, at, bits_of(height));
+    put_word(sheet, at + 2, bits_of(x_slope));
+    put_word(sheet, at + 4, bits_of(y_slope));
+}
+
+// Writes two slopes to the node whose bytes start at index `at`, and leaves its height.
+pub fn put_slopes(sheet: &mut [u8], at: usize, x_slope: i32, y_slope: i32)
+    requires { ⌜ (at + nodeSize ≤ length (now sheet)) × (slopeIn «x_slope» ≡ true) × (slopeIn «y_slope» ≡ true) ⌝ }
+    ensures { λ _. ⌜ now (sheet .exit) ≡ replaced (now (sheet .entry)) (at + heightSize) (slopeBytes «x_slope» «y_slope») ⌝ }
+{
     put_word(sheet, at + 2, bits_of(x_slope));
     put_word(sheet, at + 4, bits_of(y_slope));
 }

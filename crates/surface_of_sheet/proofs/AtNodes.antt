@@ -1,6 +1,6 @@
 -- At a node's pixel the level is the node's height in grains, and the tilt its slopes. Assumes nothing.
 use Prim.Native.Nat.{ℕ, suc, _+_, _-_, _≤_, _<_}
-use mathlib.Core.Path.{_≡_, refl, _∙_, ap, ap₂, subst}
+use mathlib.Core.Path.{_≡_, refl, sym, _∙_, ap, ap₂, subst}
 use mathlib.Core.Logic.{_⊎_, inl, inr}
 use mathlib.Core.List.{List, [], _∷_}
 use native.Mathlib.Omega.{arith}
@@ -97,6 +97,18 @@ module _ (s : List ℕ) (i j : ℕ) (accepted : Accepted s) (l : i < columns s) 
   unfolding wholes nodeNumbers jetAt tiltY tiltYAt tiltYOf
   node-tilt-y = rounded-whole (node-jet .ySlopes)
 
+  -- so a reading gives these
+  node-read : (kind : ℕ) → kind ≤ 2 → read s x y kind ≡ answered kind (numbers s x y kind)
+  node-read kind le = read-is (record { accepted = accepted; inside = node-inside s accepted i j l k; kind = le })
+
+  read-level : read s x y 0 ≡ answered 0 (heightAt s i j ∷ [])
+  unfolding numbers
+  read-level = node-read 0 (lit≤ tt) ∙ ap (λ z. answered 0 (z ∷ [])) node-level
+
+  read-tilt : read s x y 1 ≡ answered 1 (slopeXAt s i j ∷ slopeYAt s i j ∷ [])
+  unfolding numbers
+  read-tilt = node-read 1 (lit≤ tt) ∙ ap₂ (λ a b. answered 1 (a ∷ b ∷ [])) node-tilt-x node-tilt-y
+
 -- ---- a node that is set
 
 module _ (s : List ℕ) (i j : ℕ) (v : Node) (e : settingRefusal s i j v ≡ 0) where
@@ -114,30 +126,24 @@ module _ (s : List ℕ) (i j : ℕ) (v : Node) (e : settingRefusal s i j v ≡ 0
   back : ReadsBack i j v t
   back = setting-laws .readsBack s i j v e
 
-  set-read : (kind : ℕ) → kind ≤ 2 → read t (lineX s i) (lineY s j) kind ≡ answered kind (numbers t (lineX t i) (lineY t j) kind)
-  set-read kind le =
-      let h = setting-held s i j v e .0 in
-      rw (← leaves .linesX i (h .column), ← leaves .linesY j (h .row))
-      (read-is (record { accepted = has .accepted; inside = node-inside t (has .accepted) i j (has .column) (has .row); kind = le }))
+  lines : (lineX s i ≡ lineX t i) × (lineY s j ≡ lineY t j)
+  lines = let h = setting-held s i j v e .0 in (sym (leaves .linesX i (h .column)), sym (leaves .linesY j (h .row)))
 
   set-level : read t (lineX s i) (lineY s j) 0 ≡ answered 0 ((grainsPerStep *ℤ v .storedHeight) ∷ [])
-  unfolding heightAt numbers
-  set-level =
-      set-read 0 (lit≤ tt)
-      ∙ ap (λ z. answered 0 (z ∷ [])) (node-level t i j (has .accepted) (has .column) (has .row) ∙ ap (λ n. grainsPerStep *ℤ n .storedHeight) (back .numbers))
+  unfolding heightAt
+  set-level = rw (lines .0, lines .1) (read-level t i j (has .accepted) (has .column) (has .row) ∙ ap (λ (n : Node). answered 0 ((grainsPerStep *ℤ n .storedHeight) ∷ [])) (back .numbers))
 
   set-tilt : read t (lineX s i) (lineY s j) 1 ≡ answered 1 (v .slopeX ∷ v .slopeY ∷ [])
-  unfolding slopeXAt slopeYAt numbers
-  set-tilt =
-      set-read 1 (lit≤ tt)
-      ∙ ap₂ (λ a b. answered 1 (a ∷ b ∷ [])) (node-tilt-x t i j (has .accepted) (has .column) (has .row) ∙ ap (λ n. n .slopeX) (back .numbers))
-      (node-tilt-y t i j (has .accepted) (has .column) (has .row) ∙ ap (λ n. n .slopeY) (back .numbers))
+  unfolding slopeXAt slopeYAt
+  set-tilt = rw (lines .0, lines .1) (read-tilt t i j (has .accepted) (has .column) (has .row) ∙ ap (λ (n : Node). answered 1 (n .slopeX ∷ n .slopeY ∷ [])) (back .numbers))
 
 pub at-nodes : AtNodes
 at-nodes = record {
   nodeLevels = node-level;
   nodeTiltsX = node-tilt-x;
   nodeTiltsY = node-tilt-y;
+  readLevels = read-level;
+  readTilts = read-tilt;
   setLevels = set-level;
   setTilts = set-tilt;
 }

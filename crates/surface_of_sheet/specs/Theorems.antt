@@ -113,6 +113,9 @@ pub record AtNodes : Type 0 where
   pub nodeLevels : (s : List ℕ) (i j : ℕ) → Accepted s → i < columns s → j < rows s → level s (lineX s i) (lineY s j) ≡ heightAt s i j
   pub nodeTiltsX : (s : List ℕ) (i j : ℕ) → Accepted s → i < columns s → j < rows s → tiltX s (lineX s i) (lineY s j) ≡ slopeXAt s i j
   pub nodeTiltsY : (s : List ℕ) (i j : ℕ) → Accepted s → i < columns s → j < rows s → tiltY s (lineX s i) (lineY s j) ≡ slopeYAt s i j
+  pub readLevels : (s : List ℕ) (i j : ℕ) → Accepted s → i < columns s → j < rows s → read s (lineX s i) (lineY s j) 0 ≡ answered 0 (heightAt s i j ∷ [])
+  pub readTilts : (s : List ℕ) (i j : ℕ) → Accepted s → i < columns s → j < rows s →
+      read s (lineX s i) (lineY s j) 1 ≡ answered 1 (slopeXAt s i j ∷ slopeYAt s i j ∷ [])
   -- so a node that is set reads back as the new numbers: height in grains, slopes
   pub setLevels : (s : List ℕ) (i j : ℕ) (v : Node) → settingRefusal s i j v ≡ 0 →
       read (withNode s i j v) (lineX s i) (lineY s j) 0 ≡ answered 0 ((grainsPerStep *ℤ v .storedHeight) ∷ [])

@@ -1,0 +1,40 @@
+-- A sheet put together: the header and lines of another, then nodes row by row; and what is proved of it. Assumes nothing.
+use Prim.Native.Nat.{ℕ, zero, suc, _≤_, _<_}
+use mathlib.Core.Path.{_≡_}
+use mathlib.Core.List.{List, [], _++_}
+use mathlib.Core.Bool.{true}
+use lib.ListN.{length, take}
+use Rattle.sheet_words.specs.Word.{byteAt}
+use Rattle.sheet_layout.specs.Format.{columns, rows, lineX, lineY, decoded, nodeIn, nodeSize, nodesOffset, nodeBytes, nodeAt, statedSize}
+use Rattle.sheet_calls.specs.Refusals.{Accepted}
+
+-- the bytes of n things, one behind the other
+unfoldable pub inOrder : (ℕ → List ℕ) → ℕ → List ℕ
+inOrder f zero = []
+inOrder f (suc k) = inOrder f k ++ f k
+
+-- the header and lines of s, then its nodes row by row; b i j are the bytes of the node at column i and row j
+unfoldable pub assembled : List ℕ → (ℕ → ℕ → List ℕ) → List ℕ
+assembled s b = take (nodesOffset s) s ++ inOrder (λ j. inOrder (λ i. b i j) (columns s)) (rows s)
+
+-- ---- what is proved
+
+-- header and lines are there, and each node has as many bytes as it should
+pub record Whole (s : List ℕ) (b : ℕ → ℕ → List ℕ) : Type 0 where
+  pub lines : nodesOffset s ≤ length s
+  pub nodes : (i j : ℕ) → i < columns s → j < rows s → length (b i j) ≡ nodeSize
+
+pub record AssemblyLaws : Type 0 where
+  pub size : (s : List ℕ) (b : ℕ → ℕ → List ℕ) → Whole s b → length (assembled s b) ≡ statedSize s
+  -- what comes before the nodes stays, byte by byte; so do the lines
+  pub front : (s : List ℕ) (b : ℕ → ℕ → List ℕ) → Whole s b → (k : ℕ) → k < nodesOffset s → byteAt (assembled s b) k ≡ byteAt s k
+  pub columnsStay : (s : List ℕ) (b : ℕ → ℕ → List ℕ) → Whole s b → columns (assembled s b) ≡ columns s
+  pub rowsStay : (s : List ℕ) (b : ℕ → ℕ → List ℕ) → Whole s b → rows (assembled s b) ≡ rows s
+  pub linesX : (s : List ℕ) (b : ℕ → ℕ → List ℕ) → Whole s b → (k : ℕ) → k < columns s → lineX (assembled s b) k ≡ lineX s k
+  pub linesY : (s : List ℕ) (b : ℕ → ℕ → List ℕ) → Whole s b → (k : ℕ) → k < rows s → lineY (assembled s b) k ≡ lineY s k
+  -- each node has its bytes, and their numbers
+  pub nodes : (s : List ℕ) (b : ℕ → ℕ → List ℕ) → Whole s b → (i j : ℕ) → i < columns s → j < rows s → nodeBytes (assembled s b) i j ≡ b i j
+  pub numbers : (s : List ℕ) (b : ℕ → ℕ → List ℕ) → Whole s b → (i j : ℕ) → i < columns s → j < rows s → nodeAt (assembled s b) i j ≡ decoded (b i j)
+  -- it is accepted where s is, and the new numbers are in range
+  pub accepted : (s : List ℕ) (b : ℕ → ℕ → List ℕ) → Whole s b → Accepted s →
+      ((i j : ℕ) → i < columns s → j < rows s → nodeIn (decoded (b i j)) ≡ true) → Accepted (assembled s b)

@@ -1,0 +1,12 @@
+pub mod Neighbours
+pub mod Conditions
+pub mod Chain
+pub mod Quotients
+pub mod Fillable
+pub mod Same
+pub mod InPlace
+pub mod NodeByNode
+pub mod Filled
+pub mod Beside
+pub mod Laws
+pub mod Examples

@@ -1,0 +1,4 @@
+pub mod Slopes
+pub mod Steps
+pub mod SlopeLaws
+pub mod Examples
