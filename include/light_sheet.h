@@ -81,8 +81,8 @@ uint32_t lvs_set_node(uint8_t *sheet, size_t len, uint32_t column, uint32_t row,
 /* Fills every slope of the sheet from its heights. A node's slope along x, in grains per pixel, is
  *     stiffness * (height of the next node in its row - height of the previous one) / (x of the next line - x of the previous one)
  * with heights in steps, rounded to the nearest, a tie up. The first and the last node of a row have no neighbour on one side: there the node itself stands in
- * for it, in the height and in the line. Along y alike, in its column. The stiffness is 0 to 64; 0 makes all slopes 0. What the slopes were does not matter, as
- * long as the sheet is accepted.
+ * for it, in the height and in the line. Along y alike, in the node's column. The stiffness is 0 to 64; 0 makes all slopes 0. What the slopes were does not
+ * matter, as long as the sheet is accepted.
  * Returns 0, and has written both slopes of every node and kept all other bytes; or 1 to 6, 12 or 13, and has written nothing. */
 uint32_t lvs_fill_slopes(uint8_t *sheet, size_t len, uint32_t stiffness);
 
