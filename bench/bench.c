@@ -1,4 +1,5 @@
-/* How fast the module fills rows of levels, beside the plain C baseline of reference.c on the same sheets in one run, and what each other call takes.
+/* How fast the module fills rows of levels, and all slopes of a sheet, beside the plain C baseline on the same sheets in one run, and what each other call
+ * takes.
  * Usage: bench [--rounds N] measures and prints Markdown; bench --sheet FILE writes the longest sheet to FILE and prints how many pixels its mesh has. */
 #define _POSIX_C_SOURCE 200809L
 #include <stdio.h>
@@ -10,6 +11,7 @@
 #include "fail.h"
 #include "frames.h"
 #include "sheets.h"
+#include "slopes.h"
 #include "timing.h"
 
 #ifdef __clang__
@@ -26,10 +28,12 @@ static const Mesh longest = {65, 65, 32, 17};
 static double measure(int rounds) {
     prepare_frames();
     prepare_singles();
+    prepare_slopes();
     double from = now(), others = others_seconds();
     for (int round = 0; round < rounds; round++) {
         measure_frames(round);
         measure_singles();
+        measure_slopes(round);
     }
     others = (others_seconds() - others) / (now() - from);
     free_frames();
@@ -90,6 +94,7 @@ int main(int argc, char **argv) {
     double others = measure(rounds);
     printf("- Other programs of the machine meanwhile: on average %.2f processors busy.\n", others);
     print_frames(rounds);
+    print_slopes(rounds);
     print_singles(rounds);
     return 0;
 }

@@ -1,4 +1,5 @@
-/* What a server does with a sheet, by each of the six calls: checks it, reads at a pixel, fills the row from there on, finds a node, sets it, reads it back.
+/* What a server does with a sheet, by each of the seven calls: checks it, reads at a pixel, fills the row from there on, finds a node, sets it, reads it back,
+ * fills all slopes from the heights and reads once more.
  * Usage: sheet FILE [X Y]; without a pixel, at the mesh's first. */
 #include <inttypes.h>
 #include <stdio.h>
@@ -8,6 +9,7 @@
 
 static const char *const meaning[] = {
     "done", "mark", "version", "counts", "length", "lines", "nodes", "outside the mesh", "empty run", "reading kind", "no such node", "new numbers",
+    "stiffness", "too steep",
 };
 
 /* Ends the program where a call is refused. */
@@ -54,6 +56,13 @@ static void brighten_first_node(uint8_t *sheet, size_t len) {
     printf("set to height %" PRId32 "\n", signed_word(node));
 }
 
+/* Every slope anew, from the heights alone. 64 makes a slope the rise between the neighbours itself: grains per pixel for steps per pixel. */
+static void fill_slopes(uint8_t *sheet, size_t len) {
+    expect("filling", lvs_fill_slopes(sheet, len, 64));
+    const uint8_t *node = sheet + lvs_node_offset(sheet, len, 0, 0);
+    printf("slopes filled, at the first node: %" PRId32 " %" PRId32 " grains per pixel\n", signed_word(node + 2), signed_word(node + 4));
+}
+
 int main(int argc, char **argv) {
     static uint8_t sheet[LVS_MAX_SHEET + 1]; /* one byte more than any sheet has, so that a longer file is refused */
     FILE *file = argc == 2 || argc == 4 ? fopen(argv[1], "rb") : NULL;
@@ -69,6 +78,8 @@ int main(int argc, char **argv) {
     print_readings(sheet, len, x, y);
     print_row(sheet, len, x, y);
     brighten_first_node(sheet, len);
+    print_readings(sheet, len, first_x, first_y);
+    fill_slopes(sheet, len);
     print_readings(sheet, len, first_x, first_y);
     return 0;
 }

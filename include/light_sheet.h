@@ -2,7 +2,7 @@
  * docs/FORMAT.md.
  *
  * Link with liblight_sheet_c.a, for x86-64 Linux: `rt staticlib light_sheet_c` proves the module and writes the archive to target/staticlib. The archive has
- * these six calls and needs nothing else but memcpy and memset of the C library.
+ * these seven calls and needs nothing else but memcpy and memset of the C library.
  *
  * Of every call:
  * - Nothing is kept from one call to the next, nothing is allocated, no system call is made, errno is not touched. A call always returns. lvs_fill_run takes
@@ -10,7 +10,7 @@
  * - The whole sheet is checked each time, so a sheet need not be checked first. Any bytes may be passed as a sheet: none is read behind len.
  * - A call that is refused changes no memory that it was lent. The number is that of the first condition, in the order of lvs_refusal, that holds among those
  *   that concern the call.
- * - Any number of threads may call at once, also on one sheet, as long as no thread sets a node in it meanwhile.
+ * - Any number of threads may call at once, also on one sheet, as long as no thread sets a node or fills slopes in it meanwhile.
  *
  * The caller's duty, which no call can check:
  * - sheet points to len bytes, levels to count numbers, values to three; with a length of 0 the pointer is never followed and may be null.
@@ -39,7 +39,9 @@ enum lvs_refusal {
     LVS_EMPTY_RUN = 8,    /* a run of no pixels */
     LVS_KIND = 9,         /* a reading kind above 2 */
     LVS_NO_NODE = 10,     /* no such column or row */
-    LVS_NEW_NUMBERS = 11  /* a new height or slope outside -4095 to 4095 */
+    LVS_NEW_NUMBERS = 11, /* a new height or slope outside -4095 to 4095 */
+    LVS_STIFFNESS = 12,   /* a stiffness above 64 */
+    LVS_TOO_STEEP = 13    /* a filled slope outside -4095 to 4095 */
 };
 
 /* What a reading gives: the height of the surface, its slopes, its second derivatives. */
@@ -75,6 +77,14 @@ size_t lvs_node_offset(const uint8_t *sheet, size_t len, uint32_t column, uint32
 /* Sets a node to a height, in steps, and slopes along x and y, in grains per pixel.
  * Returns 0, and has written the LVS_NODE_SIZE bytes of the node; or 1 to 6, 10 or 11, and has written nothing. */
 uint32_t lvs_set_node(uint8_t *sheet, size_t len, uint32_t column, uint32_t row, int32_t height, int32_t x_slope, int32_t y_slope);
+
+/* Fills every slope of the sheet from its heights. A node's slope along x, in grains per pixel, is
+ *     stiffness * (height of the next node in its row - height of the previous one) / (x of the next line - x of the previous one)
+ * with heights in steps, rounded to the nearest, a tie up. The first and the last node of a row have no neighbour on one side: there the node itself stands in
+ * for it, in the height and in the line. Along y alike, in the node's column. The stiffness is 0 to 64; 0 makes all slopes 0. What the slopes were does not
+ * matter, as long as the sheet is accepted.
+ * Returns 0, and has written both slopes of every node and kept all other bytes; or 1 to 6, 12 or 13, and has written nothing. */
+uint32_t lvs_fill_slopes(uint8_t *sheet, size_t len, uint32_t stiffness);
 
 /* Reads at a pixel of the mesh; pixels on the outer lines belong to it. kind is one of lvs_kind. The values are whole numbers of grains (level, tilt) or of
  * 1/64 grain (bend), rounded to the nearest, a tie up, and divided by 64 or 4096, which a double holds exactly.

@@ -5,7 +5,7 @@
 
 #include <assert.h>
 
-/* refusals, 01's table */
+/* refusals, 01's table and 02's */
 static_assert(LVS_DONE == 0, "not refused");
 static_assert(LVS_MARK == 1, "fewer than 8 bytes, or not the mark");
 static_assert(LVS_VERSION == 2, "not the version");
@@ -18,6 +18,8 @@ static_assert(LVS_EMPTY_RUN == 8, "no pixels");
 static_assert(LVS_KIND == 9, "no reading kind");
 static_assert(LVS_NO_NODE == 10, "no such node");
 static_assert(LVS_NEW_NUMBERS == 11, "new numbers");
+static_assert(LVS_STIFFNESS == 12, "stiffness");
+static_assert(LVS_TOO_STEEP == 13, "a filled slope");
 
 /* reading kinds */
 static_assert(LVS_LEVEL == 0, "the height");
@@ -41,6 +43,7 @@ unsigned int lvs_check(const unsigned char *, unsigned long);
 unsigned int lvs_node_refusal(const unsigned char *, unsigned long, unsigned int, unsigned int);
 unsigned long lvs_node_offset(const unsigned char *, unsigned long, unsigned int, unsigned int);
 unsigned int lvs_set_node(unsigned char *, unsigned long, unsigned int, unsigned int, int, int, int);
+unsigned int lvs_fill_slopes(unsigned char *, unsigned long, unsigned int);
 unsigned int lvs_read(const unsigned char *, unsigned long, unsigned int, unsigned int, unsigned int, double[3]);
 unsigned int lvs_fill_run(const unsigned char *, unsigned long, unsigned int, unsigned int, int *, unsigned long);
 #ifdef __cplusplus

@@ -58,7 +58,7 @@ static void on_stack(size_t size, void (*make)(void *), void *call) {
 struct call {
     uint8_t *sheet;
     size_t len;
-    uint32_t x, y, kind;
+    uint32_t x, y, kind, stiffness;
     int32_t height;
     int32_t *levels;
     size_t count;
@@ -84,6 +84,11 @@ static void make_node_offset(void *of) {
 static void make_set_node(void *of) {
     struct call *c = of;
     c->given = lvs_set_node(c->sheet, c->len, c->x, c->y, c->height, -7, 9);
+}
+
+static void make_fill_slopes(void *of) {
+    struct call *c = of;
+    c->given = lvs_fill_slopes(c->sheet, c->len, c->stiffness);
 }
 
 static void make_read(void *of) {
@@ -112,8 +117,18 @@ static void refused(uint8_t *sheet, size_t len, enum lvs_refusal number) {
     EXPECT(node_refusal, LVS_STACK, number, SHEET);
     EXPECT(node_offset, LVS_STACK, 0, SHEET);
     EXPECT(set_node, LVS_STACK, number, SHEET);
+    EXPECT(fill_slopes, LVS_STACK, number, SHEET);
     EXPECT(read, LVS_STACK, number, SHEET);
     EXPECT(fill_run, LVS_RUN_STACK, number, SHEET, .levels = levels, .count = 4);
+}
+
+/* Slopes of an accepted sheet whose lines lie `gap` apart, filled: done, and refused by each condition of its own. */
+static void filled(uint8_t *sheet, size_t len, uint32_t gap) {
+    EXPECT(fill_slopes, LVS_STACK, LVS_STIFFNESS, SHEET, .stiffness = 65);
+    EXPECT(fill_slopes, LVS_STACK, LVS_DONE, SHEET, .stiffness = gap / 2); /* 8190 * (gap / 2) / gap: no heights are too steep for it */
+    EXPECT(set_node, LVS_STACK, LVS_DONE, SHEET, .x = 0, .height = 4095);
+    EXPECT(set_node, LVS_STACK, LVS_DONE, SHEET, .x = 1, .height = -4095);
+    EXPECT(fill_slopes, LVS_STACK, LVS_TOO_STEEP, SHEET, .stiffness = gap);
 }
 
 /* Every call on an accepted sheet with so many lines each way, the last at `last`: done, and refused by each condition of its own. */
@@ -139,6 +154,7 @@ static void accepted(uint8_t *sheet, size_t len, uint32_t lines, uint32_t last) 
     EXPECT(read, LVS_STACK, LVS_KIND, SHEET, .kind = LVS_BEND + 1);
     EXPECT(fill_run, LVS_RUN_STACK, LVS_OUTSIDE, SHEET, .x = 1, .levels = levels, .count = last + 1);
     EXPECT(fill_run, LVS_RUN_STACK, LVS_EMPTY_RUN, SHEET, .levels = levels, .count = 0);
+    filled(sheet, len, last / (lines - 1));
 }
 
 static size_t word(uint8_t *sheet, size_t at, uint32_t number) {

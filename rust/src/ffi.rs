@@ -1,12 +1,12 @@
-//! The archive's six calls, bare, as its C header has them.
+//! The archive's seven calls, bare, as its C header has them.
 //!
 //! Each gives 0 or the number of a refusal, but for [`lvs_node_offset`].
 //! None keeps, allocates or shares anything.
 //!
 //! # Safety
 //!
-//! `sheet` must be fit to be read for `len` bytes (and to be written by [`lvs_set_node`]),
-//! `values` to be written for three numbers and `levels` for `count`.
+//! `sheet` must be fit to be read for `len` bytes (and to be written by [`lvs_set_node`] and
+//! [`lvs_fill_slopes`]), `values` to be written for three numbers and `levels` for `count`.
 //! Pointers are aligned for their type; with a length of 0 one is never followed and may be null.
 //! Memory that a call may write is lent to it alone.
 
@@ -30,6 +30,9 @@ extern "C" {
         x_slope: i32,
         y_slope: i32,
     ) -> u32;
+
+    /// Fills every slope from the heights.
+    pub fn lvs_fill_slopes(sheet: *mut u8, len: usize, stiffness: u32) -> u32;
 
     /// Reads at a pixel. Places of `values` beyond the kind's count keep their contents.
     pub fn lvs_read(

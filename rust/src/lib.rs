@@ -34,6 +34,11 @@
 //! assert_eq!(light_sheet::node_numbers(&sheet, 1, 0)?, node);
 //! assert_eq!(light_sheet::level(&sheet, 2, 0)?, 3.0);
 //!
+//! // Slopes from the heights alone: from 1 to 3 steps in two pixels are 64 grains per pixel.
+//! light_sheet::fill_slopes(&mut sheet, 64)?;
+//! assert_eq!(light_sheet::tilt(&sheet, 0, 0)?, [1.0, -0.5]);
+//! assert_eq!(light_sheet::level(&sheet, 1, 0)?, 2.0);
+//!
 //! assert_eq!(light_sheet::level(&sheet, 3, 0), Err(light_sheet::Refusal::Pixel));
 //! # Ok(())
 //! # }
@@ -112,6 +117,18 @@ pub fn set_node(sheet: &mut [u8], column: u32, row: u32, node: Node) -> Result<(
     let (start, len) = (sheet.as_mut_ptr(), sheet.len());
     // SAFETY: the slice is lent for its whole length, to this call alone.
     answer(unsafe { ffi::lvs_set_node(start, len, column, row, height, x_slope, y_slope) })
+}
+
+/// Fills every slope from the heights; heights and lines stay as they are.
+///
+/// A node's x-slope becomes the stiffness, 0 to 64, times the rise in steps from the node before it
+/// in its row to the one behind it, divided by the pixels between their lines, rounded to the
+/// nearest, a tie up. At the ends of a row the node itself stands in for the missing neighbour.
+/// Along y it is alike.
+pub fn fill_slopes(sheet: &mut [u8], stiffness: u32) -> Result<(), Refusal> {
+    let (start, len) = (sheet.as_mut_ptr(), sheet.len());
+    // SAFETY: the slice is lent for its whole length, to this call alone.
+    answer(unsafe { ffi::lvs_fill_slopes(start, len, stiffness) })
 }
 
 /// The level at a pixel, in steps: a whole number of grains divided by 64.

@@ -1,4 +1,4 @@
-//! Why a call declines: the eleven conditions, by name and number.
+//! Why a call declines: the thirteen conditions, by name and number.
 
 use std::error::Error;
 use std::fmt;
@@ -31,11 +31,15 @@ pub enum Refusal {
     Node = 10,
     /// 11: a new height or slope outside -4095 to 4095.
     NewNumbers = 11,
+    /// 12: a stiffness above 64.
+    Stiffness = 12,
+    /// 13: a filled slope outside -4095 to 4095.
+    TooSteep = 13,
 }
 
 impl Refusal {
-    /// All eleven, in order of number.
-    pub const ALL: [Refusal; 11] = [
+    /// All thirteen, in order of number.
+    pub const ALL: [Refusal; 13] = [
         Refusal::Mark,
         Refusal::Version,
         Refusal::Counts,
@@ -47,9 +51,11 @@ impl Refusal {
         Refusal::Kind,
         Refusal::Node,
         Refusal::NewNumbers,
+        Refusal::Stiffness,
+        Refusal::TooSteep,
     ];
 
-    /// The number of the condition, 1 to 11.
+    /// The number of the condition, 1 to 13.
     pub fn number(self) -> u32 {
         self as u32
     }
@@ -73,6 +79,8 @@ impl Refusal {
             Refusal::Kind => "the reading kind is above 2",
             Refusal::Node => "there is no such column or row",
             Refusal::NewNumbers => "a new height or slope is outside -4095 to 4095",
+            Refusal::Stiffness => "the stiffness is above 64",
+            Refusal::TooSteep => "a filled slope would be outside -4095 to 4095",
         }
     }
 }

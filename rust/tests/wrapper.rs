@@ -27,7 +27,7 @@ fn node_at(column: u32, row: u32) -> Node {
 }
 
 /// The refusals, their numbers and their words.
-const REFUSALS: [(Refusal, u32, &str); 11] = [
+const REFUSALS: [(Refusal, u32, &str); 13] = [
     (Refusal::Mark, 1, "fewer than 8 bytes, or another mark than LVS"),
     (Refusal::Version, 2, "the sheet's version is not 1"),
     (Refusal::Counts, 3, "a count of lines is outside 2 to 65, or byte 7 is not 0"),
@@ -39,6 +39,8 @@ const REFUSALS: [(Refusal, u32, &str); 11] = [
     (Refusal::Kind, 9, "the reading kind is above 2"),
     (Refusal::Node, 10, "there is no such column or row"),
     (Refusal::NewNumbers, 11, "a new height or slope is outside -4095 to 4095"),
+    (Refusal::Stiffness, 12, "the stiffness is above 64"),
+    (Refusal::TooSteep, 13, "a filled slope would be outside -4095 to 4095"),
 ];
 
 #[test]
@@ -49,6 +51,7 @@ fn functions_have_their_types() {
     let _: for<'a> fn(&'a [u8], u32, u32) -> Result<&'a [u8; 6], Refusal> = light_sheet::node;
     let _: fn(&[u8], u32, u32) -> Result<Node, Refusal> = light_sheet::node_numbers;
     let _: fn(&mut [u8], u32, u32, Node) -> Result<(), Refusal> = light_sheet::set_node;
+    let _: fn(&mut [u8], u32) -> Result<(), Refusal> = light_sheet::fill_slopes;
     let _: fn(&[u8], u32, u32) -> Result<f64, Refusal> = light_sheet::level;
     let _: fn(&[u8], u32, u32) -> Result<[f64; 2], Refusal> = light_sheet::tilt;
     let _: fn(&[u8], u32, u32) -> Result<[f64; 3], Refusal> = light_sheet::bend;
@@ -67,7 +70,7 @@ fn refusals_have_their_numbers_and_words() {
         assert_eq!(Refusal::from_number(number), Some(refusal));
         assert_eq!(refusal.to_string(), format!("{words} (refusal {number})"));
     }
-    for number in [0, 12, 257, 65_537, u32::MAX] {
+    for number in [0, 14, 257, 65_537, u32::MAX] {
         assert_eq!(Refusal::from_number(number), None);
     }
 }
@@ -106,6 +109,7 @@ fn assert_refused(sheet: &mut [u8], refusal: Refusal) {
     assert_eq!(light_sheet::node(sheet, 0, 0), Err(refusal));
     assert_eq!(light_sheet::node_numbers(sheet, 0, 0), Err(refusal));
     assert_eq!(light_sheet::set_node(sheet, 0, 0, Node::default()), Err(refusal));
+    assert_eq!(light_sheet::fill_slopes(sheet, 0), Err(refusal));
     assert_eq!(light_sheet::level(sheet, 0, 1), Err(refusal));
     assert_eq!(light_sheet::tilt(sheet, 0, 1), Err(refusal));
     assert_eq!(light_sheet::bend(sheet, 0, 1), Err(refusal));
@@ -133,6 +137,11 @@ fn wrong_calls_are_refused_by_name() {
         assert_eq!(light_sheet::set_node(&mut sheet, column, row, zero), Err(Refusal::Node));
     }
     assert_eq!(light_sheet::set_node(&mut sheet, 0, 0, high), Err(Refusal::NewNumbers));
+    for stiffness in [65, 257, 65_537, u32::MAX] {
+        assert_eq!(light_sheet::fill_slopes(&mut sheet, stiffness), Err(Refusal::Stiffness));
+    }
+    light_sheet::set_node(&mut sheet, 0, 0, Node { height: 4095, ..zero }).unwrap();
+    assert_eq!(light_sheet::fill_slopes(&mut sheet, 64), Err(Refusal::TooSteep));
 }
 
 #[test]
@@ -174,13 +183,72 @@ fn every_number_goes_in_and_comes_out() {
     }
 }
 
+/// A sheet that has heights but no slopes: lines 1, 3 and 6 across, 2 and 6 down.
+const HEIGHTS_ALONE: [u8; 54] = [
+    0x4c, 0x56, 0x53, 0x01, 0x00, 0x03, 0x02, 0x00, // header
+    0x01, 0x00, 0x03, 0x00, 0x06, 0x00, 0x02, 0x00, 0x06, 0x00, // lines
+    0x01, 0x00, 0x00, 0x00, 0x00, 0x00, 0x04, 0x00, 0x00, 0x00, 0x00, 0x00, // top row
+    0x02, 0x00, 0x00, 0x00, 0x00, 0x00, //
+    0x04, 0x00, 0x00, 0x00, 0x00, 0x00, 0x01, 0x00, 0x00, 0x00, 0x00, 0x00, // bottom row
+    0x02, 0x00, 0x00, 0x00, 0x00, 0x00, //
+];
+
+/// Its slopes with a stiffness of 7, row by row, as docs/FORMAT.md works them out by hand.
+const WORKED_OUT: [[i32; 2]; 6] = [[11, 5], [1, -5], [-5, 0], [-10, 5], [-3, -5], [2, 0]];
+
+/// Its node bytes then, as docs/FORMAT.md has them.
+const FILLED: [u8; 36] = [
+    0x01, 0x00, 0x0b, 0x00, 0x05, 0x00, 0x04, 0x00, 0x01, 0x00, 0xfb, 0xff, // top row
+    0x02, 0x00, 0xfb, 0xff, 0x00, 0x00, //
+    0x04, 0x00, 0xf6, 0xff, 0x05, 0x00, 0x01, 0x00, 0xfd, 0xff, 0xfb, 0xff, // bottom row
+    0x02, 0x00, 0x02, 0x00, 0x00, 0x00, //
+];
+
+#[test]
+fn slopes_are_filled_as_worked_out() {
+    let mut sheet = HEIGHTS_ALONE;
+    light_sheet::fill_slopes(&mut sheet, 7).unwrap();
+    assert_eq!(sheet[..18], HEIGHTS_ALONE[..18]);
+    assert_eq!(sheet[18..], FILLED);
+    for (place, [x_slope, y_slope]) in (0..).zip(WORKED_OUT) {
+        let node = light_sheet::node_numbers(&sheet, place % 3, place / 3).unwrap();
+        assert_eq!([node.x_slope, node.y_slope], [x_slope, y_slope]);
+        let (x, y) = ([1, 3, 6][place as usize % 3], [2, 6][place as usize / 3]);
+        let in_steps = [x_slope, y_slope].map(|slope| f64::from(slope) / 64.0);
+        assert_eq!(light_sheet::tilt(&sheet, x, y), Ok(in_steps));
+        assert_eq!(light_sheet::level(&sheet, x, y), Ok(node.height.into()));
+    }
+}
+
+#[test]
+fn filled_slopes_come_from_the_heights_alone() {
+    let mut sheet = HEIGHTS_ALONE;
+    for stiffness in [64, 1, 0] {
+        light_sheet::fill_slopes(&mut sheet, stiffness).unwrap();
+    }
+    assert_eq!(sheet, HEIGHTS_ALONE, "a stiffness of 0 gives flat slopes");
+    let steep = Node { height: 4, x_slope: -4095, y_slope: 4095 };
+    light_sheet::set_node(&mut sheet, 1, 0, steep).unwrap();
+    light_sheet::fill_slopes(&mut sheet, 7).unwrap();
+    assert_eq!(sheet[18..], FILLED, "whatever the slopes were");
+    let once = sheet;
+    light_sheet::fill_slopes(&mut sheet, 7).unwrap();
+    assert_eq!(sheet, once, "filled twice as once");
+}
+
 #[test]
 fn a_refused_call_changes_nothing() {
     let mut kept = sheet();
     let too_high = Node { height: 4096, ..Node::default() };
     assert_eq!(light_sheet::set_node(&mut kept, 0, 0, too_high), Err(Refusal::NewNumbers));
     assert_eq!(light_sheet::set_node(&mut kept, 2, 0, too_high), Err(Refusal::Node));
+    assert_eq!(light_sheet::fill_slopes(&mut kept, 65), Err(Refusal::Stiffness));
     assert_eq!(kept, sheet());
+    // Only the last slope of the sheet is too steep.
+    light_sheet::set_node(&mut kept, 1, 2, Node { height: 4095, ..Node::default() }).unwrap();
+    let steep = kept.clone();
+    assert_eq!(light_sheet::fill_slopes(&mut kept, 1), Err(Refusal::TooSteep));
+    assert_eq!(kept, steep);
     let mut levels = [7; 4];
     assert_eq!(light_sheet::fill_run(&kept, 0, 1, &mut levels), Err(Refusal::Pixel));
     assert_eq!(levels, [7; 4]);
@@ -191,6 +259,7 @@ fn empty_slices_are_refused() {
     assert_eq!(light_sheet::check(&[]), Err(Refusal::Mark));
     assert_eq!(light_sheet::node(&[], 0, 0), Err(Refusal::Mark));
     assert_eq!(light_sheet::set_node(&mut [], 0, 0, Node::default()), Err(Refusal::Mark));
+    assert_eq!(light_sheet::fill_slopes(&mut [], 65), Err(Refusal::Mark));
     assert_eq!(light_sheet::level(&[], 0, 0), Err(Refusal::Mark));
     assert_eq!(light_sheet::fill_run(&[], 0, 0, &mut []), Err(Refusal::Mark));
     assert_eq!(light_sheet::fill_run(&sheet(), 0, 1, &mut []), Err(Refusal::EmptyRun));
@@ -207,6 +276,7 @@ fn nothing_may_be_lent_by_null() {
         assert_eq!(ffi::lvs_node_refusal(sheet, 0, 0, 0), 1);
         assert_eq!(ffi::lvs_node_offset(sheet, 0, 0, 0), 0);
         assert_eq!(ffi::lvs_set_node(sheet, 0, 0, 0, 1, 2, 3), 1);
+        assert_eq!(ffi::lvs_fill_slopes(sheet, 0, 1), 1);
         assert_eq!(ffi::lvs_read(sheet, 0, 0, 0, 0, &mut values), 1);
         assert_eq!(ffi::lvs_fill_run(sheet, 0, 0, 0, row, 0), 1);
         let lent = self::sheet();

@@ -17,7 +17,7 @@ pub struct Places {
 /// # Safety
 ///
 /// The sheet is lent in its length, the values for three numbers, the row for the call's count.
-/// The sheet may be written if the call sets a node.
+/// The sheet may be written if the call is there to write it.
 pub unsafe fn make(call: &Call, places: &Places) -> usize {
     let Places { sheet, len, values, row: levels } = *places;
     // SAFETY: the caller vouches for what is lent.
@@ -31,6 +31,7 @@ pub unsafe fn make(call: &Call, places: &Places) -> usize {
             Call::SetNode { column, row, numbers: [height, x_slope, y_slope] } => {
                 ffi::lvs_set_node(sheet, len, column, row, height, x_slope, y_slope)
             }
+            Call::FillSlopes { stiffness } => ffi::lvs_fill_slopes(sheet, len, stiffness),
             Call::Read { x, y, kind } => ffi::lvs_read(sheet, len, x, y, kind, values),
             Call::FillRun { x, y, count } => ffi::lvs_fill_run(sheet, len, x, y, levels, count),
         }

@@ -67,9 +67,14 @@ impl Bench {
 
     /// Makes a call, one in four through the wrapper, and compares its answer and all lent memory.
     pub fn compare(&mut self, call: Call) -> Outcome {
-        let outcome = call.outcome(&self.decoded);
         let wrapped = self.turns.once_in(4);
-        self.sheet.allow_writing(matches!(call, Call::SetNode { .. }));
+        self.compare_by(call, wrapped)
+    }
+
+    /// The same, bare or through the wrapper.
+    pub fn compare_by(&mut self, call: Call, wrapped: bool) -> Outcome {
+        let outcome = call.outcome(&self.decoded);
+        self.sheet.allow_writing(call.writes_sheet());
         self.lend_places(&call);
         let returned = self.make(&call, wrapped);
         self.expect(&outcome);
@@ -77,7 +82,7 @@ impl Bench {
             self.tally.count_kept(self.values.expected());
         }
         self.judge(&call, &outcome, returned, wrapped);
-        if let Written::Node { .. } = outcome.written {
+        if let Written::Nodes { .. } = outcome.written {
             self.decoded = Sheet::decode(self.sheet.expected());
         }
         outcome
@@ -104,7 +109,7 @@ impl Bench {
     fn expect(&mut self, outcome: &Outcome) {
         match &outcome.written {
             Written::Nothing => {}
-            Written::Node { offset, bytes } => self.sheet.expect(*offset, bytes),
+            Written::Nodes { offset, bytes } => self.sheet.expect(*offset, bytes),
             Written::Values(values) => {
                 let bytes: Vec<u8> =
                     values.iter().flat_map(|value| value.to_bits().to_le_bytes()).collect();
@@ -178,7 +183,7 @@ impl Bench {
             row: row.cast(),
         };
         // SAFETY: all is lent in the lengths that are passed, though one row may not be touched.
-        // The sheet may be written while a node is set.
+        // The sheet may be written by a call that is there to write it.
         unsafe {
             if wrapped {
                 wrapped::make(call, &places, by_name)
@@ -225,6 +230,7 @@ fn written_text(written: &Written) -> String {
     match written {
         Written::Nothing => String::from("nothing"),
         Written::Levels(levels) if levels.len() > SHORT => format!("{} levels", levels.len()),
+        Written::Nodes { bytes, .. } if bytes.len() > SHORT => format!("{} bytes", bytes.len()),
         _ => format!("{written:?}"),
     }
 }

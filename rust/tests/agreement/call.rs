@@ -1,7 +1,8 @@
-//! The six calls, and what each must give and write by the independent implementation.
+//! The seven calls, and what each must give and write by the independent implementation.
 
 use crate::fraction::Fraction;
 use crate::sheet::{in_bounds, Sheet, NODE_BYTES};
+use crate::slopes::{self, MOST_STIFFNESS};
 
 /// A call on a sheet.
 #[derive(Clone, Copy, Debug)]
@@ -10,19 +11,24 @@ pub enum Call {
     NodeRefusal { column: u32, row: u32 },
     NodeOffset { column: u32, row: u32 },
     SetNode { column: u32, row: u32, numbers: [i32; 3] },
+    FillSlopes { stiffness: u32 },
     Read { x: u32, y: u32, kind: u32 },
     FillRun { x: u32, y: u32, count: usize },
 }
 
 /// The names of the calls, in the order of [`Call::index`].
-pub const NAMES: [&str; 6] =
-    ["check", "node_refusal", "node_offset", "set_node", "read", "fill_run"];
+pub const NAMES: [&str; 7] =
+    ["check", "node_refusal", "node_offset", "set_node", "fill_slopes", "read", "fill_run"];
 
 /// What a call writes into lent memory.
 #[derive(Clone, Debug, PartialEq)]
 pub enum Written {
     Nothing,
-    Node { offset: usize, bytes: [u8; NODE_BYTES] },
+    /// Whole nodes, from this byte of the sheet on.
+    Nodes {
+        offset: usize,
+        bytes: Vec<u8>,
+    },
     Values(Vec<f64>),
     Levels(Vec<i32>),
 }
@@ -46,9 +52,15 @@ impl Call {
             Call::NodeRefusal { .. } => 1,
             Call::NodeOffset { .. } => 2,
             Call::SetNode { .. } => 3,
-            Call::Read { .. } => 4,
-            Call::FillRun { .. } => 5,
+            Call::FillSlopes { .. } => 4,
+            Call::Read { .. } => 5,
+            Call::FillRun { .. } => 6,
         }
+    }
+
+    /// Whether the call is there to write the sheet.
+    pub fn writes_sheet(&self) -> bool {
+        matches!(self, Call::SetNode { .. } | Call::FillSlopes { .. })
     }
 
     /// What the call must come to on a sheet, or on bytes that are refused.
@@ -82,6 +94,7 @@ impl Call {
                 Ok(Outcome { returned, ..Outcome::writes(Written::Nothing) })
             }
             Call::SetNode { column, row, numbers } => set_node(sheet, column, row, numbers),
+            Call::FillSlopes { stiffness } => fill_slopes(sheet, stiffness),
             Call::Read { x, y, kind } => read(sheet, x, y, kind),
             Call::FillRun { x, y, count } => fill_run(sheet, x, y, count),
         }
@@ -109,16 +122,32 @@ fn set_node(sheet: &Sheet, column: u32, row: u32, numbers: [i32; 3]) -> Result<O
     if !numbers.into_iter().all(in_bounds) {
         return Err(11);
     }
-    Ok(Outcome::writes(Written::Node {
-        offset,
-        bytes: node_bytes(numbers.map(|number| number as i16)),
-    }))
+    let bytes = node_bytes(numbers.map(|number| number as i16)).to_vec();
+    Ok(Outcome::writes(Written::Nodes { offset, bytes }))
 }
 
 /// A node's numbers as they stand in a sheet.
 pub fn node_bytes(numbers: [i16; 3]) -> [u8; NODE_BYTES] {
     let [height, x_slope, y_slope] = numbers.map(i16::to_le_bytes);
     [height[0], height[1], x_slope[0], x_slope[1], y_slope[0], y_slope[1]]
+}
+
+/// 12 when t exceeds 64, then 13 when a slope would leave −4,095 to 4,095.
+fn fill_slopes(sheet: &Sheet, stiffness: u32) -> Result<Outcome, u32> {
+    if stiffness > MOST_STIFFNESS {
+        return Err(12);
+    }
+    let exact = slopes::exact(sheet, stiffness);
+    if !slopes::may_stand(&exact) {
+        return Err(13);
+    }
+    let offset = sheet.node_offset(0, 0).expect("the first node");
+    Ok(Outcome::rounds(exact.as_flattened(), |slopes| {
+        let nodes = sheet.heights().zip(slopes.chunks_exact(2));
+        let bytes = nodes
+            .flat_map(|(height, slopes)| node_bytes([height, slopes[0] as i16, slopes[1] as i16]));
+        Written::Nodes { offset, bytes: bytes.collect() }
+    }))
 }
 
 fn read(sheet: &Sheet, x: u32, y: u32, kind: u32) -> Result<Outcome, u32> {

@@ -65,7 +65,7 @@ impl Far {
 }
 
 /// Each, and a reading of each kind; they would be accepted were the length right.
-fn calls() -> [Call; 8] {
+fn calls() -> [Call; 9] {
     let (column, row) = (1, 1);
     let (x, y) = (3, 0);
     [
@@ -76,7 +76,8 @@ fn calls() -> [Call; 8] {
         Call::Read { x, y, kind: 1 },
         Call::Read { x, y, kind: 2 },
         Call::FillRun { x, y, count: 4 },
-        // Last, because a node that is set stays so.
+        // Last, because what is set or filled stays so.
         Call::SetNode { column, row, numbers: [1, 2, 3] },
+        Call::FillSlopes { stiffness: 0 },
     ]
 }

@@ -1,5 +1,6 @@
 //! Compares the archive, and the wrapper around it, with an implementation written apart from it:
-//! from the format's description and from the conditions in section 2 of NISTIR 6718.
+//! from the format's description, from the conditions in section 2 of NISTIR 6718, and from the
+//! customer's papers 01 and 02.
 //!
 //! `cargo test --release` makes one round of cases from a fixed seed. With `--seed N` after `--`
 //! it takes another seed, with `--soak SECONDS` it goes on with the next seeds for that long.
@@ -14,14 +15,18 @@ mod draft;
 mod element;
 mod exercise;
 mod far;
+mod filling;
 mod fraction;
 mod lent;
 mod meshes;
 mod options;
 mod patterns;
 mod random;
+mod requests;
 mod round;
 mod sheet;
+mod slopes;
+mod steep;
 mod tally;
 mod trust;
 mod vectors;
@@ -45,7 +50,8 @@ fn main() -> ExitCode {
     println!("agreement: seed {}", options.seed);
 
     let vectors = vectors::all();
-    trust::check(&mut Random::new(options.seed), &vectors);
+    let cases = requests::all();
+    trust::check(&mut Random::new(options.seed), &vectors, &cases);
     println!(
         "the independent implementation meets the conditions, examples and vectors ({:.1} s)",
         seconds()
@@ -55,6 +61,7 @@ fn main() -> ExitCode {
     let mut bench = Bench::new(options.seed);
     far::run(&mut bench.tally);
     round::vectors(&mut bench, &vectors);
+    round::requests(&mut bench, &cases);
     round::run(&mut bench, options.seed);
     let mut seed = options.seed;
     while seconds() < options.soak_seconds {

@@ -3,12 +3,15 @@
 use crate::battery;
 use crate::bench::Bench;
 use crate::boundaries;
-use crate::call::Written;
+use crate::call::{Call, Written};
 use crate::damage;
 use crate::draft::Draft;
 use crate::exercise::{self, Depth};
+use crate::filling;
 use crate::meshes;
 use crate::random::Random;
+use crate::requests::Case;
+use crate::steep;
 use crate::vectors::Vector;
 use crate::worst;
 
@@ -29,11 +32,19 @@ pub fn vectors(bench: &mut Bench, vectors: &[Vector]) {
         bench.lay(&name, &vector.bytes);
         for &(call, _) in &vector.calls {
             let outcome = bench.compare(call);
-            if let Written::Node { .. } = outcome.written {
+            if let Written::Nodes { .. } = outcome.written {
                 bench.lay(&name, &vector.bytes);
             }
         }
         exercise::run(bench, &mut Random::new(0), WHOLE);
+    }
+}
+
+/// Every case of the requests, bare and through the wrapper.
+pub fn requests(bench: &mut Bench, cases: &[Case]) {
+    for (case, wrapped) in cases.iter().flat_map(|case| [(case, false), (case, true)]) {
+        bench.lay(&case.name, &case.sheet);
+        bench.compare_by(case.call, wrapped);
     }
 }
 
@@ -46,6 +57,10 @@ pub fn run(bench: &mut Bench, seed: u64) {
     }
     for (k, draft) in worst::sheets().iter().enumerate() {
         accepted(bench, random, &format!("seed {seed}, worst sheet {k}"), draft, WHOLE);
+    }
+    for (k, (draft, stiffness)) in steep::sheets().into_iter().enumerate() {
+        bench.lay(&format!("seed {seed}, steep sheet {k}"), &draft.bytes());
+        bench.compare(Call::FillSlopes { stiffness });
     }
     for k in 0..LARGE_SHEETS {
         let draft = meshes::large(random);
@@ -61,6 +76,7 @@ pub fn run(bench: &mut Bench, seed: u64) {
         bench.lay(&format!("seed {seed}, damaged sheet {k}: {damage}"), &bytes);
         exercise::run(bench, random, DAMAGED);
         battery::run(bench, &draft.sheet());
+        filling::run(bench, random);
     }
 }
 
@@ -71,6 +87,7 @@ fn boundary_sheets(bench: &mut Bench, random: &mut Random, seed: u64) {
         let mesh = bench.sheet().unwrap_or(&base).clone();
         exercise::run(bench, random, DAMAGED);
         battery::run(bench, &mesh);
+        filling::run(bench, random);
     }
 }
 
@@ -78,4 +95,5 @@ fn accepted(bench: &mut Bench, random: &mut Random, name: &str, draft: &Draft, d
     bench.lay(name, &draft.bytes());
     exercise::run(bench, random, depth);
     battery::run(bench, &draft.sheet());
+    filling::run(bench, random);
 }

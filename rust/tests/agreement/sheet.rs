@@ -70,6 +70,11 @@ impl Sheet {
         Some(self.nodes[row as usize * self.x_lines.len() + column as usize])
     }
 
+    /// The nodes' heights, row by row.
+    pub fn heights(&self) -> impl Iterator<Item = i16> + '_ {
+        self.nodes.iter().map(|&[height, _, _]| height)
+    }
+
     pub fn columns(&self) -> u32 {
         self.x_lines.len() as u32
     }

@@ -2,7 +2,7 @@
 
 use crate::call::{Call, Outcome, Written, NAMES};
 use crate::patterns;
-use crate::sheet::Sheet;
+use crate::sheet::{Sheet, NODE_BYTES};
 use crate::watch;
 
 /// Fewer than this many sheets or calls compared is a failure.
@@ -11,18 +11,20 @@ const LEAST_CALLS: u64 = 5_000_000;
 /// Differences printed in full; more are only counted.
 const SHOWN: u64 = 5;
 /// Refusals are numbered from 1 to this.
-const REFUSALS: usize = 11;
+const REFUSALS: usize = 13;
 
 #[derive(Default)]
 pub struct Tally {
     /// Sheets by refusal, 0 where accepted.
     sheets: [u64; 7],
     /// Calls by name and refusal, 0 where accepted.
-    calls: [[u64; REFUSALS + 1]; 6],
+    calls: [[u64; REFUSALS + 1]; NAMES.len()],
     wrapped: u64,
     values: u64,
     levels: u64,
+    slopes: u64,
     ties: [u64; 2],
+    slope_ties: [u64; 2],
     /// NaN in slots that a bare reading keeps, signalling ones and quiet ones.
     kept_nans: [u64; 2],
     differences: u64,
@@ -38,12 +40,17 @@ impl Tally {
         watch::call_ended();
         self.calls[call.index()][outcome.refusal as usize] += 1;
         self.wrapped += u64::from(wrapped);
+        let fills = matches!(call, Call::FillSlopes { .. });
         match &outcome.written {
             Written::Values(values) => self.values += values.len() as u64,
             Written::Levels(levels) => self.levels += levels.len() as u64,
-            Written::Nothing | Written::Node { .. } => {}
+            Written::Nodes { bytes, .. } if fills => {
+                self.slopes += (2 * bytes.len() / NODE_BYTES) as u64;
+            }
+            Written::Nothing | Written::Nodes { .. } => {}
         }
-        for (all, new) in self.ties.iter_mut().zip(outcome.ties) {
+        let ties = if fills { &mut self.slope_ties } else { &mut self.ties };
+        for (all, new) in ties.iter_mut().zip(outcome.ties) {
             *all += new;
         }
     }
@@ -85,6 +92,9 @@ impl Tally {
         if self.wrapped == 0 || self.levels == 0 || self.ties.contains(&0) {
             complaints.push("wrapper, levels or ties were never met".to_string());
         }
+        if self.slopes == 0 || self.slope_ties.contains(&0) {
+            complaints.push("filled slopes or their ties were never met".to_string());
+        }
         if self.kept_nans.contains(&0) {
             complaints.push("no NaN of some kind was ever kept".to_string());
         }
@@ -106,9 +116,12 @@ impl Tally {
         let all: Vec<u64> = (0..=REFUSALS).map(|refusal| self.refused(refusal)).collect();
         println!("{:<13}{:>9}{}", "calls", self.call_count(), by_number(&all));
         println!("calls made through the safe wrapper: {}", self.wrapped);
-        println!("single numbers compared: {}", self.call_count() + self.values + self.levels);
-        println!("  of them levels in runs: {}", self.levels);
+        let written = self.values + self.levels + self.slopes;
+        println!("single numbers compared: {}", self.call_count() + written);
+        println!("  of them levels in runs: {}, slopes filled: {}", self.levels, self.slopes);
         println!("ties met: {} positive, {} negative", self.ties[1], self.ties[0]);
+        let [below, above] = self.slope_ties;
+        println!("ties of filled slopes met: {above} positive, {below} negative");
         let [signalling, quiet] = self.kept_nans;
         println!("NaN kept in arrays: {quiet} quiet, {signalling} signalling");
         println!("differences: {}", self.differences);

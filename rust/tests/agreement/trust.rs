@@ -9,6 +9,7 @@ use crate::draft::Draft;
 use crate::element::{Cell, Corner, Exact, Piece, Weights};
 use crate::fraction::Fraction;
 use crate::random::Random;
+use crate::requests::{self, Case};
 use crate::sheet::Sheet;
 use crate::vectors::Vector;
 
@@ -16,18 +17,23 @@ use crate::vectors::Vector;
 const POINTS: i128 = 12;
 
 /// Stops at the first doubt.
-pub fn check(random: &mut Random, vectors: &[Vector]) {
+pub fn check(random: &mut Random, vectors: &[Vector], cases: &[Case]) {
     for _ in 0..2_000 {
         let cell = any_cell(random);
         meets_the_conditions(&cell);
     }
     worked_examples();
+    filled_example();
     for boundary in boundaries::all(random) {
         let refusal = Sheet::decode(&boundary.bytes).err().unwrap_or(0);
         assert_eq!(refusal, boundary.refusal, "{}", boundary.name);
     }
     for vector in vectors {
         agrees_with(vector);
+    }
+    for case in cases {
+        let outcome = case.call.outcome(&Sheet::decode(&case.sheet));
+        assert!(requests::answer(&case.sheet, &outcome) == case.answer, "{}", case.name);
     }
 }
 
@@ -103,6 +109,22 @@ fn worked_examples() {
     }
     let ramp = square(2, [[0, 64, 0], [2, 64, 0], [0, 64, 0], [2, 64, 0]]);
     assert_eq!(readings(&ramp, 1, 1)[0], 64);
+}
+
+/// The sheet of three by two nodes whose slopes the format's description works out.
+fn filled_example() {
+    let mut draft = Draft::flat(&[1, 3, 6], &[2, 6]);
+    for (node, height) in draft.nodes.iter_mut().zip([1, 4, 2, 4, 1, 2]) {
+        node[0] = height;
+    }
+    let outcome = Call::FillSlopes { stiffness: 7 }.outcome(&Ok(draft.sheet()));
+    let slopes = [(11, 5), (1, -5), (-5, 0), (-10, 5), (-3, -5), (2, 0)];
+    for (node, (x_slope, y_slope)) in draft.nodes.iter_mut().zip(slopes) {
+        *node = [node[0], x_slope, y_slope];
+    }
+    let bytes = draft.bytes()[18..].to_vec();
+    assert_eq!(outcome.written, Written::Nodes { offset: 18, bytes });
+    assert_eq!(outcome.ties, [1, 1]);
 }
 
 /// A line per pixel: x, y and the first readings, `count` numbers in all.

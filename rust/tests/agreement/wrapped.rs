@@ -36,6 +36,11 @@ pub unsafe fn make(call: &Call, places: &Places, by_name: bool) -> usize {
             let sheet = unsafe { slice::from_raw_parts_mut(start, len) };
             number(light_sheet::set_node(sheet, column, row, node))
         }
+        Call::FillSlopes { stiffness } => {
+            // SAFETY: as for a node that is set.
+            let sheet = unsafe { slice::from_raw_parts_mut(start, len) };
+            number(light_sheet::fill_slopes(sheet, stiffness))
+        }
         Call::Read { x, y, kind } => {
             let reading = read(sheet, x, y, kind, by_name);
             // SAFETY: there are three places.

@@ -1,0 +1,79 @@
+//! The vectors of 02's requests: a case a line, from an exact implementation that is a third one.
+
+use std::fs;
+use std::path::PathBuf;
+
+use crate::call::{Call, Outcome, Written};
+
+/// The files, and how many cases each has.
+const FILES: [(&str, usize); 1] = [("101-slopes.txt", 140)];
+/// The last request that has landed: cases that hold until it, or until an earlier one, do not.
+const LANDED: u32 = 101;
+
+/// A call on a sheet, and what it comes to.
+pub struct Case {
+    pub name: String,
+    pub sheet: Vec<u8>,
+    pub call: Call,
+    /// The number that it returns and what it has written, as they stand in the line.
+    pub answer: String,
+}
+
+/// All that hold now. The tests cannot do without.
+pub fn all() -> Vec<Case> {
+    let folder = PathBuf::from(env!("CARGO_MANIFEST_DIR")).join("../tests/vectors/requests");
+    let entries = fs::read_dir(&folder).expect("the requests' vectors");
+    let texts =
+        entries.filter(|entry| entry.as_ref().unwrap().path().extension().unwrap() == "txt");
+    assert_eq!(texts.count(), FILES.len(), "every file of the folder is listed here");
+    let mut cases = Vec::new();
+    for (file, count) in FILES {
+        let text = fs::read_to_string(folder.join(file)).expect(file);
+        assert_eq!(text.lines().count(), count, "the cases of {file}");
+        let numbered = (1..).zip(text.lines());
+        cases.extend(numbered.filter_map(|(k, line)| case(format!("{file}, line {k}"), line)));
+    }
+    cases
+}
+
+/// A line: the call, its arguments, an arrow, the number, what is written; `until` and a request.
+fn case(name: String, line: &str) -> Option<Case> {
+    let (line, until) = line.split_once(" until ").unwrap_or((line, "4294967295"));
+    if until.parse::<u32>().expect("a request") <= LANDED {
+        return None;
+    }
+    let (called, answer) = line.split_once(" -> ").expect("an arrow");
+    let words: Vec<&str> = called.split(' ').collect();
+    let (sheet, call) = match words[..] {
+        ["fill_slopes", sheet, stiffness] => {
+            (sheet, Call::FillSlopes { stiffness: stiffness.parse().expect("a stiffness") })
+        }
+        _ => panic!("{name}: not a call"),
+    };
+    Some(Case { name, sheet: bytes(sheet), call, answer: answer.to_string() })
+}
+
+/// What a call comes to on this sheet, as a line has it behind the arrow.
+pub fn answer(sheet: &[u8], outcome: &Outcome) -> String {
+    let number = outcome.returned;
+    match &outcome.written {
+        Written::Nothing => number.to_string(),
+        Written::Nodes { offset, bytes } => {
+            let mut left = sheet.to_vec();
+            left[*offset..*offset + bytes.len()].copy_from_slice(bytes);
+            let digits: String = left.iter().map(|byte| format!("{byte:02x}")).collect();
+            format!("{number} {digits}")
+        }
+        written => panic!("no case writes {written:?}"),
+    }
+}
+
+/// Bytes in hexadecimal, `-` for none.
+fn bytes(digits: &str) -> Vec<u8> {
+    if digits == "-" {
+        return Vec::new();
+    }
+    assert!(digits.len() % 2 == 0, "two digits a byte");
+    let pairs = (0..digits.len()).step_by(2).map(|k| &digits[k..k + 2]);
+    pairs.map(|pair| u8::from_str_radix(pair, 16).expect("hexadecimal digits")).collect()
+}
