@@ -1,20 +1,17 @@
 // Slopes filled from heights: all are looked at before the first is written.
-mod looking;
-mod slopes;
-
 ghost use mathlib.Core.Path.{_≡_};
 ghost use Prim.Native.Nat.{_<_};
 ghost use Rattle.sheet_layout.specs.Format.{columns, rows};
 ghost use Rattle.sheet_slopes.specs.Slopes.{slopeRefusal, withSlopes};
 ghost use Rattle.sheet_slopes.specs.Steps.{nodeFilled, rowFilled, rowsFilled, Fillable};
-use looking::some_too_steep;
 use sheet_checking::sheet_refusal;
 use sheet_layout::header::columns;
 use sheet_layout::header::rows;
 use sheet_layout::node_offset;
 use sheet_layout::put_slopes;
-use slopes::x_slope;
-use slopes::y_slope;
+use sheet_steepness::looking::some_too_steep;
+use sheet_steepness::slopes::x_slope;
+use sheet_steepness::slopes::y_slope;
 
 // Fills every slope of the sheet and answers 0; or, refused, answers the number and leaves the sheet as it was.
 pub fn fill_slopes(sheet: &mut [u8], stiffness: u32) -> u32

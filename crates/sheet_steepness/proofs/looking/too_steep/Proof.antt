@@ -1,4 +1,4 @@
--- `sheet_filling::looking::too_steep` meets its contract. Assumes nothing.
+-- `sheet_steepness::looking::too_steep` meets its contract. Assumes nothing.
 use denote.Ref.{now}
 use mathlib.Core.Path.{_≡_, _∙_, ap}
 use mathlib.Core.Bool.{not, _||_}
@@ -10,10 +10,10 @@ use Rattle.sheet_layout.specs.Format.{slopeIn}
 use Rattle.sheet_calls.specs.WellFormed.{WellFormed}
 use Rattle.sheet_calls.proofs.WellFormed.{accepted-laws, header-there, nodes-there}
 use Rattle.sheet_slopes.specs.Slopes.{filledX, filledY, tooSteep}
-use Rattle.sheet_filling.proofs.Gaps.{x-lines, y-lines, over-x, over-y}
-use Rattle.sheet_filling.proofs.Quotients.{handed-on, slope-is}
-use Rattle.sheet_filling.proofs.looking.too_steep.Statement.{statement}
-use Rattle.sheet_filling.proofs.looking.too_steep.Tie as tie
+use Rattle.sheet_steepness.proofs.Gaps.{x-lines, y-lines, over-x, over-y}
+use Rattle.sheet_steepness.proofs.Quotients.{handed-on, slope-is}
+use Rattle.sheet_steepness.proofs.looking.too_steep.Statement.{statement}
+use Rattle.sheet_steepness.proofs.looking.too_steep.Tie as tie
 
 well-formed : (c : tie.Start) → WellFormed (now (c .args .sheet))
 well-formed c = accepted-laws .sound _ (c .pre .0)

@@ -1,4 +1,4 @@
--- `sheet_filling::looking::steep` meets its contract. Assumes nothing.
+-- `sheet_steepness::looking::steep` meets its contract. Assumes nothing.
 use mathlib.Core.Path.{sym, _∙_, ap}
 use mathlib.Core.Bool.{not}
 use lib.IntN.{pos, negsuc}
@@ -6,9 +6,9 @@ use mir.Syntax.{w64}
 use Rattle.integers.proofs.Operand.{Operand, literal, known, unchanged, _⊠_, asks, stored, at-most}
 use Rattle.sheet_layout.specs.Format.{slopeIn}
 use Rattle.sheet_layout.proofs.NodeRange.{in-range}
-use Rattle.sheet_filling.proofs.Quotients.{in-range-rounded, ratio, same-quotient}
-use Rattle.sheet_filling.proofs.looking.steep.Statement.{statement}
-use Rattle.sheet_filling.proofs.looking.steep.Tie as tie
+use Rattle.sheet_steepness.proofs.Quotients.{in-range-rounded, ratio, same-quotient}
+use Rattle.sheet_steepness.proofs.looking.steep.Statement.{statement}
+use Rattle.sheet_steepness.proofs.looking.steep.Tie as tie
 
 module _ (c : tie.Start) where
   abbrev lowest : Operand

@@ -1,4 +1,4 @@
--- `sheet_filling::slopes::grains_over` meets its contract. Assumes nothing.
+-- `sheet_steepness::slopes::grains_over` meets its contract. Assumes nothing.
 use denote.Ref.{now}
 use Prim.Native.Nat.{ℕ}
 use mathlib.Core.Path.{_≡_, _∙_, ap, subst⁻¹}
@@ -11,9 +11,9 @@ use Rattle.integers.proofs.Operand.{Operand, asks, gives}
 use Rattle.sheet_layout.specs.Format.{lineFrom}
 use Rattle.sheet_slopes.specs.Slopes.{previous, next}
 use Rattle.sheet_slopes.proofs.Neighbours.{previous-≤, next-<}
-use Rattle.sheet_filling.proofs.Gaps.{denominates, rising, gap-is, grains}
-use Rattle.sheet_filling.proofs.slopes.grains_over.Statement.{statement}
-use Rattle.sheet_filling.proofs.slopes.grains_over.Tie as tie
+use Rattle.sheet_steepness.proofs.Gaps.{denominates, rising, gap-is, grains}
+use Rattle.sheet_steepness.proofs.slopes.grains_over.Statement.{statement}
+use Rattle.sheet_steepness.proofs.slopes.grains_over.Tie as tie
 
 line-from-requires : tie.Need-line-from-requires
 line-from-requires c κs =

@@ -1,4 +1,4 @@
--- `sheet_filling::looking::row_too_steep` meets its contract. Assumes nothing.
+-- `sheet_steepness::looking::row_too_steep` meets its contract. Assumes nothing.
 use Prim.Native.Nat.{_-_, _≤_}
 use mathlib.Core.Path.{_≡_, refl, _∙_, ap}
 use borrow.Author.Needs.{needs}
@@ -7,8 +7,8 @@ use Rattle.sheet_layout.specs.Some.{some}
 use Rattle.sheet_layout.proofs.Gathered.{gathered, gathered-all}
 use Rattle.sheet_calls.proofs.WellFormed.{header-there}
 use Rattle.sheet_slopes.specs.Slopes.{tooSteep}
-use Rattle.sheet_filling.proofs.looking.row_too_steep.Statement.{statement}
-use Rattle.sheet_filling.proofs.looking.row_too_steep.Tie as tie
+use Rattle.sheet_steepness.proofs.looking.row_too_steep.Statement.{statement}
+use Rattle.sheet_steepness.proofs.looking.row_too_steep.Tie as tie
 
 abbrev Inv-loop : tie.InvT-loop
 Inv-loop sheet stiffness row count steep₀ column₀ steep column = (column ≤ count) × (steep ≡ some (λ i. tooSteep sheet stiffness i row) column)

@@ -1,4 +1,4 @@
--- `sheet_filling::slopes::y_rise` meets its contract. Assumes nothing.
+-- `sheet_steepness::slopes::y_rise` meets its contract. Assumes nothing.
 use denote.Ref.{now}
 use Prim.Native.Nat.{ℕ}
 use mathlib.Core.Path.{_≡_, _∙_, ap}
@@ -11,9 +11,9 @@ use Rattle.integers.proofs.Operand.{asks}
 use Rattle.sheet_layout.specs.Format.{columns, rows, heightAt}
 use Rattle.sheet_slopes.specs.Slopes.{previous, next}
 use Rattle.sheet_slopes.proofs.Neighbours.{previous-≤, next-<}
-use Rattle.sheet_filling.proofs.Rises.{difference, product, rise-is}
-use Rattle.sheet_filling.proofs.slopes.y_rise.Statement.{statement}
-use Rattle.sheet_filling.proofs.slopes.y_rise.Tie as tie
+use Rattle.sheet_steepness.proofs.Rises.{difference, product, rise-is}
+use Rattle.sheet_steepness.proofs.slopes.y_rise.Statement.{statement}
+use Rattle.sheet_steepness.proofs.slopes.y_rise.Tie as tie
 
 -- the neighbours that the code has
 next-is : (c : tie.After-next) → let a = c .before .before .before .args in c .next .result ≡ next (rows (now (a .sheet))) (a .row)

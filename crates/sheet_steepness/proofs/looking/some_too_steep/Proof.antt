@@ -1,4 +1,4 @@
--- `sheet_filling::looking::some_too_steep` meets its contract. Assumes nothing.
+-- `sheet_steepness::looking::some_too_steep` meets its contract. Assumes nothing.
 use Prim.Native.Nat.{_-_, _≤_}
 use mathlib.Core.Path.{_≡_, refl, _∙_, ap}
 use borrow.Author.Needs.{needs}
@@ -8,8 +8,8 @@ use Rattle.sheet_layout.specs.Format.{columns}
 use Rattle.sheet_layout.proofs.Gathered.{gathered, gathered-all}
 use Rattle.sheet_calls.proofs.WellFormed.{header-there}
 use Rattle.sheet_slopes.specs.Slopes.{tooSteep, someTooSteep}
-use Rattle.sheet_filling.proofs.looking.some_too_steep.Statement.{statement}
-use Rattle.sheet_filling.proofs.looking.some_too_steep.Tie as tie
+use Rattle.sheet_steepness.proofs.looking.some_too_steep.Statement.{statement}
+use Rattle.sheet_steepness.proofs.looking.some_too_steep.Tie as tie
 
 abbrev Inv-loop : tie.InvT-loop
 Inv-loop sheet stiffness count steep₀ row₀ steep row = (row ≤ count) × (steep ≡ some (λ j. some (λ i. tooSteep sheet stiffness i j) (columns sheet)) row)

@@ -1,11 +1,11 @@
--- `sheet_filling::slopes::previous` meets its contract. Assumes nothing.
+-- `sheet_steepness::slopes::previous` meets its contract. Assumes nothing.
 use Prim.Native.Nat.{ℕ, zero, suc, _-_}
 use mathlib.Core.Path.{_≡_, refl}
 use borrow.Author.Needs.{needs}
 use native.Mathlib.Omega.{arith}
 use Rattle.sheet_slopes.specs.Slopes.{previous}
-use Rattle.sheet_filling.proofs.slopes.previous.Statement.{statement}
-use Rattle.sheet_filling.proofs.slopes.previous.Tie as tie
+use Rattle.sheet_steepness.proofs.slopes.previous.Statement.{statement}
+use Rattle.sheet_steepness.proofs.slopes.previous.Tie as tie
 
 one-less : (k : ℕ) → k - 1 ≡ previous k
 unfolding previous

@@ -1,14 +1,14 @@
--- `sheet_filling::slopes::y_slope` meets its contract. Assumes nothing.
+-- `sheet_steepness::slopes::y_slope` meets its contract. Assumes nothing.
 use denote.Ref.{now}
 use mathlib.Core.Path.{_∙_}
 use borrow.Author.Needs.{needs}
 use mir.Syntax.{w64}
 use Rattle.integers.proofs.Operand.{unchanged}
 use Rattle.sheet_slopes.specs.Slopes.{filledY}
-use Rattle.sheet_filling.proofs.Gaps.{y-lines, over-y}
-use Rattle.sheet_filling.proofs.Quotients.{ratio, slope-is}
-use Rattle.sheet_filling.proofs.slopes.y_slope.Statement.{statement}
-use Rattle.sheet_filling.proofs.slopes.y_slope.Tie as tie
+use Rattle.sheet_steepness.proofs.Gaps.{y-lines, over-y}
+use Rattle.sheet_steepness.proofs.Quotients.{ratio, slope-is}
+use Rattle.sheet_steepness.proofs.slopes.y_slope.Statement.{statement}
+use Rattle.sheet_steepness.proofs.slopes.y_slope.Tie as tie
 
 grains-over-requires : tie.Need-grains-over-requires
 grains-over-requires c κs =

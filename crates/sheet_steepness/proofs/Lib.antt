@@ -1,0 +1,3 @@
+pub mod Gaps
+pub mod Rises
+pub mod Quotients
