@@ -30,9 +30,9 @@ pub fn fill_slopes(sheet: &mut [u8], stiffness: u32) -> u32
 fn slope_refusal(sheet: &[u8], stiffness: u32) -> u32
     ensures { λ r. ⌜ r ≡ slopeRefusal (now (sheet .entry)) stiffness ⌝ }
 {
-    let refusal = sheet_refusal(sheet);
-    if refusal != 0 {
-        return refusal;
+    let of_sheet = sheet_refusal(sheet);
+    if of_sheet != 0 {
+        return of_sheet;
     }
     if 64 < stiffness {
         return 12;

@@ -1,7 +1,7 @@
 // The slopes that heights give at a node, before and after rounding.
 ghost use mathlib.Core.Path.{_≡_};
 ghost use Prim.Native.Nat.{_+_, _*_, _^_, _≤_, _<_};
-ghost use lib.IntN.{pos, natAbs};
+ghost use lib.IntN.{pos, natAbs, _-ℤ_, _*ℤ_};
 ghost use lib.ListN.{length};
 ghost use Rattle.integers.specs.Within.{_within_};
 ghost use Rattle.integers.specs.Ratio.{Denominates};
@@ -42,7 +42,7 @@ pub fn x_rise(sheet: &[u8], stiffness: u32, column: usize, row: usize) -> i64
 {
     let after = height(sheet, next(columns(sheet), column), row);
     let before = height(sheet, previous(column), row);
-    stiffness as i64 * (after - before)
+    stiffened(stiffness, before, after)
 }
 
 pub fn y_rise(sheet: &[u8], stiffness: u32, column: usize, row: usize) -> i64
@@ -51,6 +51,13 @@ pub fn y_rise(sheet: &[u8], stiffness: u32, column: usize, row: usize) -> i64
 {
     let after = height(sheet, column, next(rows(sheet), row));
     let before = height(sheet, column, previous(row));
+    stiffened(stiffness, before, after)
+}
+
+fn stiffened(stiffness: u32, before: i64, after: i64) -> i64
+    requires { ⌜ (stiffness ≤ 64) × (before within (2 ^ 21)) × (after within (2 ^ 21)) ⌝ }
+    ensures { λ r. ⌜ (r ≡ pos stiffness *ℤ (after -ℤ before)) × (r within (2 ^ 28)) ⌝ }
+{
     stiffness as i64 * (after - before)
 }
 

@@ -1,17 +1,17 @@
 -- `sheet_steepness::slopes::x_rise` meets its contract. Assumes nothing.
 use denote.Ref.{now}
-use Prim.Native.Nat.{ℕ}
-use mathlib.Core.Path.{_≡_, _∙_, ap}
+use Prim.Native.Nat.{ℕ, _^_}
+use mathlib.Core.Path.{_≡_, _∙_, ap, subst⁻¹}
 use borrow.Author.Needs.{needs}
-use native.Mathlib.Omega.{arith}
 use native.Mathlib.Nat.{lt-of-le-of-lt}
 use lib.IntN.{ℤ}
 use mir.Syntax.{w64}
-use Rattle.integers.proofs.Operand.{asks}
+use Rattle.integers.specs.Within.{_within_}
+use Rattle.integers.proofs.Operand.{unchanged}
 use Rattle.sheet_layout.specs.Format.{columns, rows, heightAt}
 use Rattle.sheet_slopes.specs.Slopes.{previous, next}
 use Rattle.sheet_slopes.proofs.Neighbours.{previous-≤, next-<}
-use Rattle.sheet_steepness.proofs.Rises.{difference, product, rise-is}
+use Rattle.sheet_steepness.proofs.Rises.{handed-on, rise-is}
 use Rattle.sheet_steepness.proofs.slopes.x_rise.Statement.{statement}
 use Rattle.sheet_steepness.proofs.slopes.x_rise.Tie as tie
 
@@ -27,11 +27,14 @@ height-requires-2 c κs = let s = c .before .before .before .before .before in (
 
 returns : tie.Need-returns
 returns c =
-    let s = c .before .before .before .before .before .before in
+    let d = c .before in
+    let s = d .before .before .before .before .before .before in
     let height : ℕ → ℤ = λ k. heightAt (now (s .args .sheet)) k (s .args .row) in
-    let after = c .before .before .height in
-    rise-is (after .ensures .1) (c .height2 .ensures .1) (s .pre .1) _ height _
-    (after .ensures .0 ∙ ap height (next-is (c .before .before .before))) (c .height2 .ensures .0 ∙ ap height (c .before .previous .ensures))
+    let after = d .before .before .height in
+    let r = c .stiffened in
+    let is = rise-is (after .ensures .1) (d .height2 .ensures .1) (s .args .stiffness) _ height _
+    (after .ensures .0 ∙ ap height (next-is (d .before .before .before))) (d .height2 .ensures .0 ∙ ap height (d .before .previous .ensures)) in
+    (unchanged w64 (r .ok) ∙ r .ensures .0 ∙ is, subst⁻¹ (λ z. z within (2 ^ 28)) (unchanged w64 (r .ok)) (r .ensures .1))
 
 pub x-rise-spec : {M : Type 1} → statement M
 x-rise-spec =
@@ -42,7 +45,6 @@ x-rise-spec =
     height-requires
     (λ c κs. search needs)
     height-requires-2
-    (λ c. search needs)
-    (λ c. asks w64 (difference (c .before .before .height .ensures .1) (c .height2 .ensures .1)) tt)
-    (λ c. asks w64 (product (c .before .before .height .ensures .1) (c .height2 .ensures .1) (c .before .before .before .before .before .before .pre .1)) tt)
+    (λ c κs. let d = c .before .before in
+    let both = handed-on (d .height .ensures .1) (c .height2 .ensures .1) in (d .before .before .before .before .pre .1, both .0, both .1))
     returns)
