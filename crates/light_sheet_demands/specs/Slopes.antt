@@ -13,8 +13,7 @@ use Rattle.sheet_words.specs.Word.{byteAt}
 use Rattle.sheet_layout.specs.Format.{columns, rows, lineX, lineY, nodeAt}
 use Rattle.sheet_calls.specs.Refusals.{Accepted}
 use Rattle.sheet_calls.specs.WellFormed.{Rising}
-use Rattle.sheet_slopes.specs.Slopes.{filledX, filledY, tooStiff, someTooSteep}
-use Rattle.sheet_slopes.specs.SlopeLaws.{SameHeights}
+use Rattle.sheet_slopes.specs.Slopes.{filledX, filledY, tooStiff, someTooSteep, SameHeights}
 use Rattle.surface_answers.specs.Answers.{outcome}
 use Rattle.surface_answers.specs.declared.Answer.{Answer}
 use Rattle.light_sheet_demands.specs.Contracts.{FillSlopes, Read}

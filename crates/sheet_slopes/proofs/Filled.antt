@@ -21,9 +21,9 @@ use Rattle.sheet_calls.proofs.Conditions.{condition-laws}
 use Rattle.sheet_calls.proofs.WellFormed.{accepted-laws}
 use Rattle.sheet_calls.proofs.Chains.{sheet-taken}
 use Rattle.sheet_assembly.proofs.Assembled.{assembly-laws, same-assembled}
-use Rattle.sheet_slopes.specs.Slopes.{filledX, filledY, filledBytes, slopeRefusal, withSlopes}
+use Rattle.sheet_slopes.specs.Slopes.{SameHeights, filledX, filledY, filledBytes, slopeRefusal, withSlopes}
 use Rattle.sheet_slopes.specs.Steps.{Fillable, rowsFilled}
-use Rattle.sheet_slopes.specs.SlopeLaws.{SameHeights, Filled}
+use Rattle.sheet_slopes.specs.SlopeLaws.{Filled}
 use Rattle.sheet_slopes.proofs.Chain.{slope-is, slope-held, set-is, refused-is}
 use Rattle.sheet_slopes.proofs.Fillable.{fillable}
 use Rattle.sheet_slopes.proofs.Same.{heights-front, same-filledX, same-filledY, same-steep, same-fillable}

@@ -8,11 +8,11 @@ use Rattle.sheet_layout.specs.Format.{slopeXAt, slopeYAt}
 use Rattle.sheet_layout.specs.Examples.{header, flat, sheetA, oblong}
 use Rattle.sheet_slopes.specs.Slopes.{filledX, filledY, slopeRefusal, withSlopes}
 
--- 3 columns and 2 rows, the vertical lines at 0, 2 and 5, the horizontal ones at 0 and 4; heights 0, 3, 10 and 3, 0, 1
-abbrev pub uneven : List ℕ
-uneven =
-    (0x4C ∷ 0x56 ∷ 0x53 ∷ 1 ∷ 0 ∷ 3 ∷ 2 ∷ 0 ∷ []) ++ (0 ∷ 0 ∷ 2 ∷ 0 ∷ 5 ∷ 0 ∷ 0 ∷ 0 ∷ 4 ∷ 0 ∷ []) ++
-    flat 0 0 ++ flat 3 0 ++ flat 10 0 ++ flat 3 0 ++ flat 0 0 ++ flat 1 0
+-- the sheet of docs/FORMAT.md: the vertical lines at 1, 3 and 6, the horizontal ones at 2 and 6; heights 1, 4, 2 and 4, 1, 2
+abbrev pub worked : List ℕ
+worked =
+    (0x4C ∷ 0x56 ∷ 0x53 ∷ 1 ∷ 0 ∷ 3 ∷ 2 ∷ 0 ∷ []) ++ (1 ∷ 0 ∷ 3 ∷ 0 ∷ 6 ∷ 0 ∷ 2 ∷ 0 ∷ 6 ∷ 0 ∷ []) ++
+    flat 1 0 ++ flat 4 0 ++ flat 2 0 ++ flat 4 0 ++ flat 1 0 ++ flat 2 0
 
 -- 2 columns, x apart, and 2 rows, 1 apart; the left nodes have one height, the right ones another
 abbrev pub pair : ℕ → List ℕ → List ℕ → List ℕ
@@ -32,28 +32,25 @@ abbrev pub up1117 : ℕ → List ℕ
 up1117 x = pair x (flat 0xD2 0xFD) (flat 0x2F 0x02)
 
 pub record Examples : Type 0 where
-  -- at the first node 3 / 2, a tie, goes up to 2; at the inner one 10 / 5; at the last 7 / 3
-  pub firstNode : filledX uneven 1 0 0 ≡ pos 2
-  pub innerNode : filledX uneven 1 1 0 ≡ pos 2
-  pub lastNode : filledX uneven 1 2 0 ≡ pos 2
-  -- −3 / 2 goes up to −1; −2 / 5 and 1 / 3 go to 0
-  pub negativeTie : filledX uneven 1 0 1 ≡ negsuc 0
-  pub upToZero : filledX uneven 1 1 1 ≡ pos 0
-  pub downToZero : filledX uneven 1 2 1 ≡ pos 0
-  -- along y: 3 / 4, −3 / 4, −9 / 4
-  pub firstColumn : filledY uneven 1 0 0 ≡ pos 1
-  pub secondColumn : filledY uneven 1 1 1 ≡ negsuc 0
-  pub thirdColumn : filledY uneven 1 2 1 ≡ negsuc 1
-  -- with the greatest stiffness 192 / 2, 640 / 5, 448 / 3, −576 / 4
-  pub stiffFirst : filledX uneven 64 0 0 ≡ pos 96
-  pub stiffInner : filledX uneven 64 1 0 ≡ pos 128
-  pub stiffLast : filledX uneven 64 2 0 ≡ pos 149
-  pub stiffDown : filledY uneven 64 2 0 ≡ negsuc 143
-  -- the whole sheet, node by node: −1 is FF FF, −2 is FE FF
-  pub filled : withSlopes uneven 1 ≡
-      (0x4C ∷ 0x56 ∷ 0x53 ∷ 1 ∷ 0 ∷ 3 ∷ 2 ∷ 0 ∷ []) ++ (0 ∷ 0 ∷ 2 ∷ 0 ∷ 5 ∷ 0 ∷ 0 ∷ 0 ∷ 4 ∷ 0 ∷ []) ++
-      (0 ∷ 0 ∷ 2 ∷ 0 ∷ 1 ∷ 0 ∷ []) ++ (3 ∷ 0 ∷ 2 ∷ 0 ∷ 255 ∷ 255 ∷ []) ++ (10 ∷ 0 ∷ 2 ∷ 0 ∷ 254 ∷ 255 ∷ []) ++
-      (3 ∷ 0 ∷ 255 ∷ 255 ∷ 1 ∷ 0 ∷ []) ++ (0 ∷ 0 ∷ 0 ∷ 0 ∷ 255 ∷ 255 ∷ []) ++ (1 ∷ 0 ∷ 0 ∷ 0 ∷ 254 ∷ 255 ∷ [])
+  -- with stiffness 7 the first node of the top row has 7 × 3 / 2, a tie, which goes up to 11; the inner one 7 × 1 / 5; the last −7 × 2 / 3
+  pub firstNode : filledX worked 7 0 0 ≡ pos 11
+  pub innerNode : filledX worked 7 1 0 ≡ pos 1
+  pub lastNode : filledX worked 7 2 0 ≡ negsuc 4
+  -- −7 × 3 / 2, a tie, goes up to −10
+  pub negativeTie : filledX worked 7 0 1 ≡ negsuc 9
+  -- along y: 7 × 3 / 4 and −7 × 3 / 4, from either end; equal heights
+  pub top : filledY worked 7 0 0 ≡ pos 5
+  pub bottom : filledY worked 7 1 1 ≡ negsuc 4
+  pub level : filledY worked 7 2 1 ≡ pos 0
+  -- with the greatest stiffness 64 × 3 / 2, 64 × 1 / 5, −64 × 2 / 3
+  pub stiffFirst : filledX worked 64 0 0 ≡ pos 96
+  pub stiffInner : filledX worked 64 1 0 ≡ pos 13
+  pub stiffLast : filledX worked 64 2 0 ≡ negsuc 42
+  -- the whole sheet, node by node: −3 is FD FF, −5 is FB FF, −10 is F6 FF
+  pub filled : withSlopes worked 7 ≡
+      (0x4C ∷ 0x56 ∷ 0x53 ∷ 1 ∷ 0 ∷ 3 ∷ 2 ∷ 0 ∷ []) ++ (1 ∷ 0 ∷ 3 ∷ 0 ∷ 6 ∷ 0 ∷ 2 ∷ 0 ∷ 6 ∷ 0 ∷ []) ++
+      (1 ∷ 0 ∷ 0x0B ∷ 0 ∷ 5 ∷ 0 ∷ []) ++ (4 ∷ 0 ∷ 1 ∷ 0 ∷ 0xFB ∷ 0xFF ∷ []) ++ (2 ∷ 0 ∷ 0xFB ∷ 0xFF ∷ 0 ∷ 0 ∷ []) ++
+      (4 ∷ 0 ∷ 0xF6 ∷ 0xFF ∷ 5 ∷ 0 ∷ []) ++ (1 ∷ 0 ∷ 0xFD ∷ 0xFF ∷ 0xFB ∷ 0xFF ∷ []) ++ (2 ∷ 0 ∷ 2 ∷ 0 ∷ 0 ∷ 0 ∷ [])
   -- old slopes are written over; stiffness 0 leaves none
   pub oldGone : slopeXAt (withSlopes oblong 0) 2 1 ≡ pos 0
   pub oldGoneToo : slopeYAt (withSlopes oblong 0) 2 1 ≡ pos 0

@@ -12,7 +12,7 @@ use Rattle.sheet_words.specs.Word.{byteAt}
 use Rattle.sheet_layout.specs.Format.{columns, rows, lineX, lineY, node, heightSize, nodesOffset, nodeOffset, nodeAt, grainsPerStep}
 use Rattle.sheet_calls.specs.Refusals.{Accepted}
 use Rattle.sheet_calls.specs.WellFormed.{Rising}
-use Rattle.sheet_slopes.specs.Slopes.{previous, next, distance, slopeAlong, filledX, filledY, tooStiff, someTooSteep, slopeRules, slopeRefusal, withSlopes}
+use Rattle.sheet_slopes.specs.Slopes.{SameHeights, previous, next, distance, slopeAlong, filledX, filledY, tooStiff, someTooSteep, slopeRules, slopeRefusal, withSlopes}
 use Rattle.sheet_slopes.specs.Steps.{Fillable, rowsFilled}
 
 -- an inner node has the one before and the one after it; an end node stands in for the one that is missing
@@ -21,13 +21,6 @@ pub record NeighbourLaws : Type 0 where
   pub after : (n k : ℕ) → suc k < n → next n k ≡ suc k
   pub first : previous 0 ≡ 0
   pub last : (k : ℕ) → next (suc k) k ≡ k
-
--- t has the bytes of s before the nodes, and the heights' bytes
-pub record SameHeights (s t : List ℕ) : Type 0 where
-  pub size : length t ≡ length s
-  pub front : (k : ℕ) → k < nodesOffset s → byteAt t k ≡ byteAt s k
-  pub heights : (i j : ℕ) → i < columns s → j < rows s → (byteAt t (nodeOffset s i j) ≡ byteAt s (nodeOffset s i j))
-      × (byteAt t (nodeOffset s i j + 1) ≡ byteAt s (nodeOffset s i j + 1))
 
 -- what filling the slopes of s leaves, r
 pub record Filled (s : List ℕ) (t : ℕ) (r : List ℕ) : Type 0 where

@@ -1,12 +1,15 @@
 -- Slopes from heights alone (02, #101): the slope that a stiffness gives at each node, when the call is refused, and what it leaves. Assumes nothing.
-use Prim.Native.Nat.{ℕ, zero, suc, _*_, _-_}
+use Prim.Native.Nat.{ℕ, zero, suc, _+_, _*_, _-_, _<_}
+use mathlib.Core.Path.{_≡_}
 use mathlib.Core.List.{List, [], _∷_, _++_}
 use mathlib.Core.Bool.{Bool, cond, not, _||_}
 use lib.Dec.{ltb, eqb}
+use lib.ListN.{length}
 use lib.IntN.{ℤ, pos, natAbs, _-ℤ_, _*ℤ_}
 use Rattle.integers.specs.Round.{round}
+use Rattle.sheet_words.specs.Word.{byteAt}
 use Rattle.sheet_layout.specs.Some.{some}
-use Rattle.sheet_layout.specs.Format.{columns, rows, lineX, lineY, slopeBytes, heightBytes, slopeIn, grainsPerStep, heightAt}
+use Rattle.sheet_layout.specs.Format.{columns, rows, lineX, lineY, slopeBytes, slopeIn, nodesOffset, nodeOffset, heightBytes, grainsPerStep, heightAt}
 use Rattle.sheet_calls.specs.Rules.{Rule, rule, firstRefusal}
 use Rattle.sheet_calls.specs.Refusals.{sheetRules}
 use Rattle.sheet_assembly.specs.Assembled.{assembled}
@@ -76,3 +79,12 @@ slopeRefusal s t = firstRefusal slopeRules (record { sheet = s; stiffness = t })
 -- s with every slope filled, or, refused, as it was
 unfoldable pub withSlopes : List ℕ → ℕ → List ℕ
 withSlopes s t = cond (eqb (slopeRefusal s t) 0) (assembled s (filledBytes s t)) s
+
+-- ---- sheets that differ in their slopes alone
+
+-- t has the length of s, its bytes before the nodes and the two bytes of each height
+pub record SameHeights (s t : List ℕ) : Type 0 where
+  pub size : length t ≡ length s
+  pub front : (k : ℕ) → k < nodesOffset s → byteAt t k ≡ byteAt s k
+  pub heights : (i j : ℕ) → i < columns s → j < rows s → (byteAt t (nodeOffset s i j) ≡ byteAt s (nodeOffset s i j))
+      × (byteAt t (nodeOffset s i j + 1) ≡ byteAt s (nodeOffset s i j + 1))
