@@ -1,6 +1,6 @@
 -- 02's #101, from the laws of slopes that are filled from heights. Assumes nothing.
 use Prim.Native.Nat.{ℕ, suc, _+_, _*_, _-_, _≤_, _<_}
-use mathlib.Core.Path.{_≡_, refl, sym, _∙_, ap, ap₂}
+use mathlib.Core.Path.{_≡_, sym, _∙_, ap}
 use mathlib.Core.List.{List, [], _∷_}
 use native.Mathlib.Decide.{ℕ-discrete}
 use native.Mathlib.Omega.{arith}
@@ -9,7 +9,7 @@ use Rattle.integers.specs.Round.{round}
 use Rattle.integers.proofs.Polynomial.{#_, _⊗_, _⊝_}
 use Rattle.integers.proofs.Solve.{_≐_}
 use Rattle.integers.proofs.Deduce.{_·_, _⊨_, deduce}
-use Rattle.element_sibson.specs.Fraction.{Positive, positive, ℚ, _≈_, _·ℚ_, _÷_, whole}
+use Rattle.element_sibson.specs.Fraction.{Positive, positive, ℚ, _·ℚ_, _÷_, whole}
 use Rattle.element_readings.specs.Reading.{rounded}
 use Rattle.sheet_layout.specs.Format.{columns, rows, lineX, lineY, nodeAt, heightAt, slopeXAt, slopeYAt, grainsPerStep}
 use Rattle.sheet_calls.specs.Refusals.{Accepted}

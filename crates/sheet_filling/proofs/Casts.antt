@@ -1,5 +1,5 @@
 -- A slope in range, z, that the code has in 64 bits as r and hands on in 32. Assumes nothing.
-use mathlib.Core.Path.{_≡_, sym, _∙_, ap}
+use mathlib.Core.Path.{_≡_, _∙_, ap}
 use mathlib.Core.Bool.{true}
 use lib.IntN.{ℤ}
 use mir.Syntax.{w32, w64}

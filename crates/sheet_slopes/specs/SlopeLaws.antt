@@ -4,16 +4,15 @@ use mathlib.Core.Path.{_≡_}
 use mathlib.Core.Logic.{_↔_}
 use mathlib.Core.List.{List, [], _∷_, map}
 use mathlib.Core.Bool.{false}
-use lib.ListN.{length}
 use lib.IntN.{ℤ, pos, _-ℤ_, _*ℤ_}
 use Rattle.integers.specs.Within.{_within_}
 use Rattle.integers.specs.Round.{round}
 use Rattle.sheet_words.specs.Word.{byteAt}
-use Rattle.sheet_layout.specs.Format.{columns, rows, lineX, lineY, node, heightSize, nodesOffset, nodeOffset, nodeAt, grainsPerStep}
+use Rattle.sheet_layout.specs.Format.{columns, rows, lineX, lineY, node, heightSize, nodeOffset, nodeAt, grainsPerStep}
 use Rattle.sheet_calls.specs.Refusals.{Accepted}
 use Rattle.sheet_calls.specs.WellFormed.{Rising}
 use Rattle.sheet_slopes.specs.Slopes.{SameHeights, previous, next, distance, slopeAlong, filledX, filledY, tooStiff, someTooSteep, slopeRules, slopeRefusal, withSlopes}
-use Rattle.sheet_slopes.specs.Steps.{Fillable, rowsFilled}
+use Rattle.sheet_slopes.specs.Steps.{rowsFilled}
 
 -- an inner node has the one before and the one after it; an end node stands in for the one that is missing
 pub record NeighbourLaws : Type 0 where

@@ -1,14 +1,9 @@
 -- `sheet_steepness::slopes::y_rise` meets its contract. Assumes nothing.
 use denote.Ref.{now}
-use Prim.Native.Nat.{ℕ, _^_}
-use mathlib.Core.Path.{_≡_, _∙_, ap, subst⁻¹}
+use mathlib.Core.Path.{_≡_, _∙_, ap}
 use borrow.Author.Needs.{needs}
 use native.Mathlib.Nat.{lt-of-le-of-lt}
-use lib.IntN.{ℤ}
-use mir.Syntax.{w64}
-use Rattle.integers.specs.Within.{_within_}
-use Rattle.integers.proofs.Operand.{unchanged}
-use Rattle.sheet_layout.specs.Format.{columns, rows, heightAt}
+use Rattle.sheet_layout.specs.Format.{rows, heightAt}
 use Rattle.sheet_slopes.specs.Slopes.{previous, next}
 use Rattle.sheet_slopes.proofs.Neighbours.{previous-≤, next-<}
 use Rattle.sheet_steepness.proofs.Rises.{handed-on, rise-is}
@@ -29,12 +24,8 @@ returns : tie.Need-returns
 returns c =
     let d = c .before in
     let s = d .before .before .before .before .before .before in
-    let height : ℕ → ℤ = λ k. heightAt (now (s .args .sheet)) (s .args .column) k in
-    let after = d .before .before .height in
-    let r = c .stiffened in
-    let is = rise-is (after .ensures .1) (d .height2 .ensures .1) (s .args .stiffness) _ height _
-    (after .ensures .0 ∙ ap height (next-is (d .before .before .before))) (d .height2 .ensures .0 ∙ ap height (d .before .previous .ensures)) in
-    (unchanged w64 (r .ok) ∙ r .ensures .0 ∙ is, subst⁻¹ (λ z. z within (2 ^ 28)) (unchanged w64 (r .ok)) (r .ensures .1))
+    rise-is _ _ (λ k. heightAt (now (s .args .sheet)) (s .args .column) k) _ (d .before .before .height .ensures) (next-is (d .before .before .before))
+    (d .height2 .ensures) (d .before .previous .ensures) (c .stiffened .ensures) (c .stiffened .ok)
 
 pub y-rise-spec : {M : Type 1} → statement M
 y-rise-spec =
