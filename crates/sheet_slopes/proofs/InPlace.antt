@@ -56,9 +56,6 @@ module _ {s : List ℕ} {t : ℕ} (f : Fillable s t) where
       heights = λ i′ j′ h′ k′. (height-stays i′ j′ _ h′ (omega arith) (omega arith), height-stays i′ j′ _ h′ (omega arith) (omega arith));
     }
 
-    pub node-fillable : Fillable (nodeFilled s t i j) t
-    node-fillable = same-fillable node-same f
-
 -- ---- the first nodes of a row
 
 pub row-same : {s : List ℕ} {t : ℕ} → Fillable s t → (j : ℕ) → j < rows s → (k : ℕ) → k ≤ columns s → SameHeights s (rowFilled s t j k)

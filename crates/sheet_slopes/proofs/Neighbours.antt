@@ -33,13 +33,13 @@ unfolding previous
 previous-≤ zero = omega arith
 previous-≤ (suc k) = omega arith
 
-pub next-≥ : (n k : ℕ) → k ≤ next n k
+next-≥ : (n k : ℕ) → k ≤ next n k
 next-≥ n k = next-ind n k (λ m. k ≤ m) (λ h. omega arith) (λ h. omega arith)
 
 pub next-< : (n k : ℕ) → k < n → next n k < n
 next-< n k l = next-ind n k (λ m. m < n) (λ h. h) (λ h. l)
 
-pub previous-<-next : (n k : ℕ) → 2 ≤ n → k < n → previous k < next n k
+previous-<-next : (n k : ℕ) → 2 ≤ n → k < n → previous k < next n k
 unfolding previous
 previous-<-next n zero two l = next-ind n zero (λ m. zero < m) (λ h. omega arith) (λ h. absurd (omega arith))
 previous-<-next n (suc k) two l = let after = next-≥ n (suc k) in omega arith
