@@ -12,9 +12,9 @@ static void put(uint8_t *at, int32_t number) {
 static int32_t slope(const uint8_t *lines, int count, int k, const uint8_t *node, ptrdiff_t step, int32_t stiffness) {
     int before = k > 0, after = k < count - 1; /* an end node has itself on one side */
     int32_t rise = height(node + after * step) - height(node - before * step);
-    int32_t run = word(lines + 2 * (k + after)) - word(lines + 2 * (k - before));
-    int32_t numerator = 2 * stiffness * rise + run, rounded = numerator / (2 * run);
-    return rounded - (numerator % (2 * run) < 0);
+    int32_t distance = word(lines + 2 * (k + after)) - word(lines + 2 * (k - before));
+    int32_t numerator = 2 * stiffness * rise + distance, rounded = numerator / (2 * distance);
+    return rounded - (numerator % (2 * distance) < 0);
 }
 
 static int out(int32_t number) { return number < -4095 || number > 4095; }

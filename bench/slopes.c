@@ -91,6 +91,6 @@ void print_slopes(int rounds) {
     printf("\nAll slopes filled from heights, time per call, the best of %d batches; the module's has the check of the sheet in it:\n\n", rounds * BATCHES);
     printf("| sheet | stiffness |");
     for (int q = 0; q < KINDS; q++) printf(" %s |", kinds[q].name);
-    printf(" check in module | module/loop |\n|---|---:|---:|---:|---:|---:|\n");
+    printf(" check alone | module/loop |\n|---|---:|---:|---:|---:|---:|\n");
     for (int k = 0; k < FILLED; k++) print_filled(&all_filled[k]);
 }

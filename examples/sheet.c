@@ -56,7 +56,7 @@ static void brighten_first_node(uint8_t *sheet, size_t len) {
     printf("set to height %" PRId32 "\n", signed_word(node));
 }
 
-/* Every slope anew, from the heights alone. 64 makes a slope the rise between the neighbours itself: grains per pixel for steps per pixel. */
+/* Every slope anew, from the heights alone. Stiffness 64 gives the slope of the straight line between a node's neighbours. */
 static void fill_slopes(uint8_t *sheet, size_t len) {
     expect("filling", lvs_fill_slopes(sheet, len, 64));
     const uint8_t *node = sheet + lvs_node_offset(sheet, len, 0, 0);

@@ -34,7 +34,7 @@
 //! assert_eq!(light_sheet::node_numbers(&sheet, 1, 0)?, node);
 //! assert_eq!(light_sheet::level(&sheet, 2, 0)?, 3.0);
 //!
-//! // Slopes from the heights alone: from 1 to 3 steps in two pixels are 64 grains per pixel.
+//! // Slopes from the heights alone: from 1 to 3 steps in two pixels is 64 grains per pixel.
 //! light_sheet::fill_slopes(&mut sheet, 64)?;
 //! assert_eq!(light_sheet::tilt(&sheet, 0, 0)?, [1.0, -0.5]);
 //! assert_eq!(light_sheet::level(&sheet, 1, 0)?, 2.0);
@@ -122,7 +122,7 @@ pub fn set_node(sheet: &mut [u8], column: u32, row: u32, node: Node) -> Result<(
 /// Fills every slope from the heights; heights and lines stay as they are.
 ///
 /// A node's x-slope becomes the stiffness, 0 to 64, times the rise in steps from the node before it
-/// in its row to the one behind it, divided by the pixels between their lines, rounded to the
+/// in its row to the one after it, divided by the pixels between their lines, rounded to the
 /// nearest, a tie up. At the ends of a row the node itself stands in for the missing neighbour.
 /// Along y it is alike.
 pub fn fill_slopes(sheet: &mut [u8], stiffness: u32) -> Result<(), Refusal> {

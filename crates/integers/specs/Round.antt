@@ -1,4 +1,4 @@
--- The rounding rule of levels, tilts and bends, and its laws. Assumes nothing.
+-- The rounding rule of levels, tilts, bends and filled slopes, and its laws. Assumes nothing.
 use mathlib.Core.Path.{_≡_}
 use Prim.Native.Nat.{ℕ, _*_, _<_}
 use lib.IntN.{ℤ, pos, _+ℤ_, _-ℤ_, _*ℤ_}

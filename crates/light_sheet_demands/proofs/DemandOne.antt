@@ -12,7 +12,7 @@ use Rattle.sheet_slopes.proofs.Laws.{slope-laws}
 use Rattle.surface_of_sheet.proofs.Runs.{run-laws}
 use Rattle.light_sheet_c.proofs.Stored.{over-size, over-behind}
 use Rattle.light_sheet_demands.specs.Demands.{DemandOne}
-use Rattle.light_sheet_demands.proofs.Refusals.{check-gives, lookup-gives, setting-gives, filling-gives, reading-gives, run-gives}
+use Rattle.light_sheet_demands.proofs.Refusals.{check-gives, lookup-gives, setting-gives, slopes-gives, reading-gives, run-gives}
 use Rattle.light_sheet_demands.proofs.Readings.{refused-reading, no-values, few-words, none-stored}
 use Rattle.light_sheet_demands.proofs.Slopes.{kept}
 
@@ -40,7 +40,7 @@ demand-one = record {
   check = check-gives;
   lookup = lookup-gives;
   setting = setting-gives;
-  filling = filling-gives;
+  slopes = slopes-gives;
   reading = reading-gives;
   arrayReading = λ c. rw (c .answer) (reading-gives (c .isRead));
   run = run-gives;

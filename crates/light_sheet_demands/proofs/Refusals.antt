@@ -18,7 +18,7 @@ use Rattle.surface_answers.specs.declared.Answer.{Answer}
 use Rattle.surface_of_sheet.specs.Read.{read}
 use Rattle.surface_of_sheet.proofs.Answered.{taken-is, refused-is}
 use Rattle.light_sheet_demands.specs.Contracts.{Check, NodeRefusal, SetNode, FillSlopes, Read, FillRun}
-use Rattle.light_sheet_demands.specs.Demands.{FirstHolds, NoneHolds, Gives, ofCheck, ofLookup, ofSetting, ofFilling, ofReading, ofRun, AcceptedMeans}
+use Rattle.light_sheet_demands.specs.Demands.{FirstHolds, NoneHolds, Gives, ofCheck, ofLookup, ofSetting, ofSlopes, ofReading, ofRun, AcceptedMeans}
 
 -- ---- the law of rules, in the demands' words
 
@@ -65,9 +65,9 @@ pub setting-gives : {s t : List ℕ} {i j n : ℕ} {v : Node} → SetNode s i j 
 unfolding nonzero sheetRules settingRules settingRefusal
 setting-gives c = gives _ _ tt (c .answer)
 
-pub filling-gives : {s t : List ℕ} {k n : ℕ} → FillSlopes s k n t → Gives ofFilling (record { sheet = s; stiffness = k }) n
+pub slopes-gives : {s t : List ℕ} {k n : ℕ} → FillSlopes s k n t → Gives ofSlopes (record { sheet = s; stiffness = k }) n
 unfolding nonzero sheetRules slopeRules slopeRefusal
-filling-gives c = gives _ _ tt (c .answer)
+slopes-gives c = gives _ _ tt (c .answer)
 
 pub reading-gives : {s t : List ℕ} {x y kind : ℕ} {r : Answer} → Read s x y kind r t →
     Gives ofReading (record { sheet = s; x = x; y = y; kind = kind }) (outcome r .number)

@@ -152,7 +152,7 @@ pub slope-filling : SlopeFilling
 slope-filling = record {
   alongX = along-x;
   alongY = along-y;
-  apart = λ c. let w = formed (taken c) in (w .fewColumns, w .risingX, w .fewRows, w .risingY);
+  apart = λ s a. let w = formed a in (w .fewColumns, w .risingX, w .fewRows, w .risingY);
   flat = λ c i j h l. (slope-x c i j h l ∙ slope-laws .flatX _ i j (taken c) h, slope-y c i j h l ∙ slope-laws .flatY _ i j (taken c) l);
   flatTaken = λ a c. c .answer ∙ slope-laws .flat _ a;
   heights = λ c. kept c .heights;

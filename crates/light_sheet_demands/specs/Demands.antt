@@ -72,8 +72,8 @@ abbrev pub ofSetting : List (Rule SettingInput)
 ofSetting = ofSheet (λ u. u .sheet) ++ rule 10 (λ u. noNode (u .sheet) (u .column) (u .row)) ∷ rule 11 (λ u. wrongNumbers (u .numbers)) ∷ []
 
 -- 02's, of #101
-abbrev pub ofFilling : List (Rule SlopeInput)
-ofFilling = ofSheet (λ u. u .sheet) ++ rule 12 (λ u. tooStiff (u .stiffness)) ∷ rule 13 (λ u. someTooSteep (u .sheet) (u .stiffness)) ∷ []
+abbrev pub ofSlopes : List (Rule SlopeInput)
+ofSlopes = ofSheet (λ u. u .sheet) ++ rule 12 (λ u. tooStiff (u .stiffness)) ∷ rule 13 (λ u. someTooSteep (u .sheet) (u .stiffness)) ∷ []
 
 abbrev pub ofReading : List (Rule ReadingInput)
 ofReading = ofSheet (λ u. u .sheet) ++ rule 7 (λ u. outside (u .sheet) (u .x) (u .y)) ∷ rule 9 (λ u. otherKind (u .kind)) ∷ []
@@ -119,7 +119,7 @@ pub record DemandOne : Type 0 where
   pub check : {s t : List ℕ} {n : ℕ} → Check s n t → Gives ofCheck s n
   pub lookup : {s t : List ℕ} {i j n : ℕ} → NodeRefusal s i j n t → Gives ofLookup (record { sheet = s; column = i; row = j }) n
   pub setting : {s t : List ℕ} {i j n : ℕ} {v : Node} → SetNode s i j v n t → Gives ofSetting (record { sheet = s; column = i; row = j; numbers = v }) n
-  pub filling : {s t : List ℕ} {k n : ℕ} → FillSlopes s k n t → Gives ofFilling (record { sheet = s; stiffness = k }) n
+  pub slopes : {s t : List ℕ} {k n : ℕ} → FillSlopes s k n t → Gives ofSlopes (record { sheet = s; stiffness = k }) n
   pub reading : {s t : List ℕ} {x y kind : ℕ} {r : Answer} → Read s x y kind r t →
       Gives ofReading (record { sheet = s; x = x; y = y; kind = kind }) (outcome r .number)
   pub arrayReading : {s t : List ℕ} {x y kind n : ℕ} {array array′ : List ℕ} → ReadInto s x y kind array n array′ t →

@@ -19,7 +19,7 @@ use Rattle.surface_answers.specs.declared.Answer.{Answer}
 use Rattle.light_sheet_demands.specs.Contracts.{FillSlopes, Read}
 use Rattle.light_sheet_demands.specs.Demands.{nodeStart, given}
 
--- the slopes at the n nodes of a row or a column: k is the stiffness, lines are in pixels, heights in steps; d is how far two lines are apart
+-- the slopes at the n nodes of a row or a column: k is the stiffness, 02's t; lines are in pixels, heights in steps; d is how far two lines are apart
 pub record FromHeights (k n : ℕ) (line : ℕ → ℕ) (height slope : ℕ → ℤ) : Type 0 where
   -- "an inner node gets t × (next height − previous height) / (next x − previous x), rounded as levels are."
   pub inner : (i : ℕ) (d : Positive) → suc (suc i) < n → line (suc (suc i)) ≡ line i + d .number →
@@ -40,8 +40,8 @@ pub record SlopeFilling : Type 0 where
   -- "Along y it is alike."
   pub alongY : {s t : List ℕ} {k : ℕ} → FillSlopes s k 0 t → (i : ℕ) → i < columns s →
       FromHeights k (rows s) (lineY s) (λ j. nodeAt s i j .storedHeight) (λ j. nodeAt t i j .slopeY)
-  -- lines rise, so that the distances are above 0
-  pub apart : {s t : List ℕ} {k : ℕ} → FillSlopes s k 0 t → (2 ≤ columns s) × Rising (lineX s) (columns s) × (2 ≤ rows s) × Rising (lineY s) (rows s)
+  -- there are two lines each way or more, and they rise, so that the distances are above 0
+  pub apart : (s : List ℕ) → Accepted s → (2 ≤ columns s) × Rising (lineX s) (columns s) × (2 ≤ rows s) × Rising (lineY s) (rows s)
   -- "The stiffness t, an unsigned 32-bit number, runs from 0 to 64 and 0 gives flat slopes."
   pub flat : {s t : List ℕ} → FillSlopes s 0 0 t → (i j : ℕ) → i < columns s → j < rows s → (nodeAt t i j .slopeX ≡ pos 0) × (nodeAt t i j .slopeY ≡ pos 0)
   pub flatTaken : {s t : List ℕ} {n : ℕ} → Accepted s → FillSlopes s 0 n t → n ≡ 0
@@ -49,7 +49,7 @@ pub record SlopeFilling : Type 0 where
   pub heights : {s t : List ℕ} {k n : ℕ} → FillSlopes s k n t → (i j : ℕ) → i < columns s → j < rows s →
       (byteAt t (nodeStart s i j) ≡ byteAt s (nodeStart s i j)) × (byteAt t (nodeStart s i j + 1) ≡ byteAt s (nodeStart s i j + 1))
   pub lines : {s t : List ℕ} {k n : ℕ} → FillSlopes s k n t → (b : ℕ) → b < nodeStart s 0 0 → byteAt t b ≡ byteAt s b
-  -- "Errors: 12 when t exceeds 64, after 6; 13 when a slope would leave −4,095 to 4,095, after 12." The order is that of `ofFilling`; this is what the two say,
+  -- "Errors: 12 when t exceeds 64, after 6; 13 when a slope would leave −4,095 to 4,095, after 12." The order is that of `ofSlopes`; this is what the two say,
   -- and what the slopes would be
   pub twelve : (k : ℕ) → (tooStiff k ≡ false) ↔ (k ≤ 64)
   pub thirteen : (s : List ℕ) (k : ℕ) → (someTooSteep s k ≡ false)
@@ -63,7 +63,7 @@ pub record SlopeFilling : Type 0 where
   pub oldSlopes : {s s′ t t′ : List ℕ} {k n n′ : ℕ} → Accepted s → Accepted s′ → SameHeights s s′ → FillSlopes s k n t → FillSlopes s′ k n′ t′ →
       (n′ ≡ n) × (n ≡ 0 → t′ ≡ t)
   pub twice : {s t t′ : List ℕ} {k n n′ : ℕ} → FillSlopes s k n t → FillSlopes t k n′ t′ → (n′ ≡ n) × (t′ ≡ t)
-  -- heights that rise evenly along a row, or a column, give t ρ rounded at all its nodes, the ends too
+  -- heights that rise evenly along a row, or a column, give the stiffness times ρ, rounded, at all its nodes, the ends too
   pub evenX : {s t : List ℕ} {k : ℕ} → FillSlopes s k 0 t → (ρ : ℚ) (j : ℕ) → j < rows s → Evenly ρ (columns s) (lineX s) (λ i. nodeAt s i j .storedHeight) →
       (i : ℕ) → i < columns s → nodeAt t i j .slopeX ≡ rounded (pos k ·ℚ ρ)
   pub evenY : {s t : List ℕ} {k : ℕ} → FillSlopes s k 0 t → (ρ : ℚ) (i : ℕ) → i < columns s → Evenly ρ (rows s) (lineY s) (λ j. nodeAt s i j .storedHeight) →

@@ -2,7 +2,7 @@
 use mathlib.Core.Path.{_≡_, refl}
 use mathlib.Core.List.{map}
 use Rattle.sheet_words.specs.Word.{signed, bitsOf, bytesOf}
-use Rattle.sheet_layout.specs.Format.{marked, supported, countIn, decoded, encoded, heightIn, slopeIn, nodeIn, nodeAt, heightAt, someNodeOut}
+use Rattle.sheet_layout.specs.Format.{marked, supported, countIn, decoded, slopeBytes, encoded, heightIn, slopeIn, nodeIn, nodeAt, heightAt, someNodeOut}
 use Rattle.sheet_layout.specs.Some.{some}
 use Rattle.sheet_layout.specs.Examples.{evenly}
 use Rattle.sheet_calls.specs.Refusals.{otherMark, otherVersion, otherCounts, otherLength, wrongStep, wrongLine, wrongLines, wrongNodes, outside, offMesh, emptyRun, otherKind, noNode, wrongNumbers, sheetRules, checkRules, checkRefusal, lookupRules, lookupRefusal, settingRules, settingRefusal, readingRules, readingRefusal, runRules, runRefusal}
@@ -15,7 +15,7 @@ unfolding signed marked supported countIn decoded heightIn slopeIn nodeIn nodeAt
 checks = refl
 
 pub examples : Examples
-unfolding signed bitsOf bytesOf evenly marked supported countIn decoded encoded heightIn slopeIn nodeIn nodeAt heightAt some otherMark otherVersion otherCounts otherLength wrongStep wrongLine wrongLines someNodeOut wrongNodes outside offMesh emptyRun otherKind noNode wrongNumbers firstRefusal sheetRules lookupRules lookupRefusal settingRules settingRefusal readingRules readingRefusal runRules runRefusal lookedUp withNode
+unfolding signed bitsOf bytesOf evenly marked supported countIn decoded slopeBytes encoded heightIn slopeIn nodeIn nodeAt heightAt some otherMark otherVersion otherCounts otherLength wrongStep wrongLine wrongLines someNodeOut wrongNodes outside offMesh emptyRun otherKind noNode wrongNumbers firstRefusal sheetRules lookupRules lookupRefusal settingRules settingRefusal readingRules readingRefusal runRules runRefusal lookedUp withNode
 examples = record {
   manyLines = refl;
   manyCounts = refl;

@@ -3,7 +3,7 @@ ghost use mathlib.Core.Path.{_≡_};
 ghost use Prim.Native.Nat.{_<_};
 ghost use Rattle.sheet_layout.specs.Format.{columns, rows};
 ghost use Rattle.sheet_slopes.specs.Slopes.{slopeRefusal, withSlopes};
-ghost use Rattle.sheet_slopes.specs.Steps.{nodeFilled, rowFilled, rowsFilled, Fillable};
+ghost use Rattle.sheet_slopes.specs.InPlace.{nodeFilled, rowFilled, rowsFilled, Fillable};
 use sheet_checking::sheet_refusal;
 use sheet_layout::header::columns;
 use sheet_layout::header::rows;

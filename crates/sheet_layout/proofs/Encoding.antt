@@ -1,7 +1,7 @@
 -- A node's numbers and their bytes. Assumes nothing.
 use Prim.Native.Nat.{ℕ, _+_, _≤_}
 use mathlib.Core.Path.{_≡_, refl}
-use mathlib.Core.List.{List}
+use mathlib.Core.List.{List, append-assoc}
 use mathlib.Core.Bool.{true}
 use native.Mathlib.Omega.{arith}
 use lib.ListN.{length, take, drop}
@@ -12,7 +12,7 @@ use Rattle.integers.proofs.Bounds.{within-mono, within-upper, within-lower}
 use Rattle.sheet_words.specs.Word.{wordAt, signed, bitsOf, bytesOf, Bytes}
 use Rattle.sheet_words.proofs.Signs.{signed-bits, bits-signed, bits-small}
 use Rattle.sheet_words.proofs.Bytes.{word-bytes, bytes-word, bytes-of, bytes-append}
-use Rattle.sheet_layout.specs.Format.{Node, decoded, encoded, nodeIn, nodeSize}
+use Rattle.sheet_layout.specs.Format.{Node, slopeBytes, decoded, encoded, nodeIn, nodeSize}
 use Rattle.sheet_layout.specs.EncodingLaws.{EncodingLaws}
 use Rattle.sheet_layout.proofs.NodeRange.{node-in}
 
@@ -28,28 +28,35 @@ bytes-back b i h l = rw (bits-signed (wordAt b i) (omega (arith, h i, h (i + 1))
 -- ---- a node and its six
 
 encoded-size : (v : Node) → length (encoded v) ≡ nodeSize
-unfolding encoded bytesOf
+unfolding encoded slopeBytes bytesOf
 encoded-size v = refl
 
 decoded-encoded : (v : Node) → nodeIn v ≡ true → decoded (encoded v) ≡ v
-unfolding decoded encoded bytesOf
+unfolding decoded encoded slopeBytes bytesOf
 decoded-encoded v e =
     let r = node-in v .0 e in
     rw (number-back _ (r .0 .0) (omega arith), number-back _ (r .0 .1) (omega arith), number-back _ (r .1) (omega arith)) refl
 
 encoded-decoded : (b : List ℕ) → Bytes b → length b ≡ nodeSize → encoded (decoded b) ≡ b
-unfolding decoded encoded
+unfolding decoded encoded slopeBytes
 encoded-decoded b h l =
-    rw (bytes-back b 0 h (omega arith), bytes-back b 2 h (omega arith), bytes-back b 4 h (omega arith), ← take-add 2 2 b, ← take-add 4 2 b) (take-all 6 b (omega arith))
+    rw (
+      bytes-back b 0 h (omega arith),
+      bytes-back b 2 h (omega arith),
+      bytes-back b 4 h (omega arith),
+      ← append-assoc (take 2 b) (take 2 (drop 2 b)) (take 2 (drop 4 b)),
+      ← take-add 2 2 b,
+      ← take-add 4 2 b,
+    ) (take-all 6 b (omega arith))
 
 number-bytes : (z : ℤ) → z within 4095 → Bytes (bytesOf (bitsOf z))
 number-bytes z w = bytes-of _ (bits-small (within-mono w (omega arith)))
 
 pub encoded-bytes : (v : Node) → nodeIn v ≡ true → Bytes (encoded v)
-unfolding encoded
+unfolding encoded slopeBytes
 encoded-bytes v e =
     let r = node-in v .0 e in
-    bytes-append _ _ (bytes-append _ _ (number-bytes _ (r .0 .0)) (number-bytes _ (r .0 .1))) (number-bytes _ (r .1))
+    bytes-append _ _ (number-bytes _ (r .0 .0)) (bytes-append _ _ (number-bytes _ (r .0 .1)) (number-bytes _ (r .1)))
 
 pub encoding-laws : EncodingLaws
 encoding-laws = record { encodedSize = encoded-size; decodedEncoded = decoded-encoded; encodedDecoded = encoded-decoded }

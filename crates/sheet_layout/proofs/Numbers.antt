@@ -33,6 +33,12 @@ pub back : {h x y : ℤ} → SFits w32 h → SFits w32 x → SFits w32 y
     → node (toZ w32 (ofZ w32 h)) (toZ w32 (ofZ w32 x)) (toZ w32 (ofZ w32 y)) ≡ node h x y
 back f g k = λ i. node (toZ-ofZ w32 _ f i) (toZ-ofZ w32 _ g i) (toZ-ofZ w32 _ k i)
 
+pub slopes-back : {x y : ℤ} → SFits w32 x → SFits w32 y → (h : ℤ) → nodeIn (node h x y) ≡ true
+    → (slopeIn (toZ w32 (ofZ w32 x)) ≡ true) × (slopeIn (toZ w32 (ofZ w32 y)) ≡ true)
+slopes-back {x} {y} f g h e =
+    let ((_, a), b) = node-in (node h x y) .0 e in
+    (ap slopeIn (toZ-ofZ w32 x f) ∙ slope-in x .1 a, ap slopeIn (toZ-ofZ w32 y g) ∙ slope-in y .1 b)
+
 -- two slopes behind the height
 pub two-words : (s : List ℕ) (at : ℕ) {p q : ℤ} → SFits w32 p → SFits w32 q → {a b : ℕ} {t t₂ : List ℕ} → at + nodeSize ≤ length s
     → a ≡ bitsOf (toZ w32 (ofZ w32 p)) → t ≡ replaced s (at + 2) (bytesOf a)
@@ -42,17 +48,10 @@ unfolding slopeBytes bytesOf
 two-words s at {p} {q} f g fits e k h l =
     l ∙ rw (k, e, h, toZ-ofZ w32 p f, toZ-ofZ w32 q g, ← add-assoc at 2 2) (replaced-on s (at + 2) (bytesOf (bitsOf p)) (omega arith) (bytesOf (bitsOf q)))
 
--- three words, one behind the other
-words-on : (s : List ℕ) (at a b c : ℕ) → at + nodeSize ≤ length s
-    → replaced (replaced (replaced s at (bytesOf a)) (at + 2) (bytesOf b)) (at + 4) (bytesOf c) ≡ replaced s at (bytesOf a ++ bytesOf b ++ bytesOf c)
-unfolding bytesOf
-words-on s at a b c fits = rw (replaced-on s at (bytesOf a) (omega arith) (bytesOf b)) (replaced-on s at (bytesOf a ++ bytesOf b) (omega arith) (bytesOf c))
-
--- three words are the node's bytes
-pub three-words : {u v : Node} (e : u ≡ v) (s : List ℕ) (at : ℕ) {a b c : ℕ} {t t₂ t₃ : List ℕ} → at + nodeSize ≤ length s
-    → a ≡ bitsOf (u .storedHeight) → t ≡ replaced s at (bytesOf a)
-    → b ≡ bitsOf (u .slopeX) → t₂ ≡ replaced t (at + 2) (bytesOf b)
-    → c ≡ bitsOf (u .slopeY) → t₃ ≡ replaced t₂ (at + 4) (bytesOf c)
-    → t₃ ≡ replaced s at (encoded v)
-unfolding encoded
-three-words e s at fits p k q l r m = m ∙ rw (l, k, p, q, r) (words-on s at _ _ _ fits ∙ ap (λ w. replaced s at (encoded w)) e)
+-- a height and then the slopes are the node's bytes
+pub node-bytes : {u v : Node} → u ≡ v → (s : List ℕ) (at : ℕ) {a : ℕ} {t t₂ : List ℕ} → at + nodeSize ≤ length s
+    → a ≡ bitsOf (u .storedHeight) → t ≡ replaced s at (bytesOf a) → t₂ ≡ replaced t (at + heightSize) (slopeBytes (u .slopeX) (u .slopeY))
+    → t₂ ≡ replaced s at (encoded v)
+unfolding encoded bytesOf
+node-bytes {u} e s at fits p k l =
+    l ∙ rw (k, p) (replaced-on s at (bytesOf (bitsOf (u .storedHeight))) (omega arith) _) ∙ ap (λ w. replaced s at (encoded w)) e

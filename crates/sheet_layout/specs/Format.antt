@@ -92,16 +92,16 @@ nodeSize = 6
 unfoldable pub decoded : List ℕ → Node
 decoded b = node (signed (wordAt b 0)) (signed (wordAt b 2)) (signed (wordAt b 4))
 
--- a node's bytes from its numbers
-unfoldable pub encoded : Node → List ℕ
-encoded v = bytesOf (bitsOf (v .storedHeight)) ++ bytesOf (bitsOf (v .slopeX)) ++ bytesOf (bitsOf (v .slopeY))
+-- the bytes of its slopes, which come behind the height, and how many bytes the height has
+unfoldable pub slopeBytes : ℤ → ℤ → List ℕ
+slopeBytes p q = bytesOf (bitsOf p) ++ bytesOf (bitsOf q)
 
--- its height comes first and has so many bytes; behind it come the slopes, in these bytes
 abbrev pub heightSize : ℕ
 heightSize = 2
 
-unfoldable pub slopeBytes : ℤ → ℤ → List ℕ
-slopeBytes p q = bytesOf (bitsOf p) ++ bytesOf (bitsOf q)
+-- a node's bytes from its numbers
+unfoldable pub encoded : Node → List ℕ
+encoded v = bytesOf (bitsOf (v .storedHeight)) ++ slopeBytes (v .slopeX) (v .slopeY)
 
 -- the largest stored height and slope, without their sign
 abbrev pub highest : ℕ

@@ -117,8 +117,7 @@ pub fn put_node(sheet: &mut [u8], at: usize, height: i32, x_slope: i32, y_slope:
     ensures { λ _. ⌜ now (sheet .exit) ≡ replaced (now (sheet .entry)) at (encoded (node height «x_slope» «y_slope»)) ⌝ }
 {
     put_word(sheet, at, bits_of(height));
-    put_word(sheet, at + 2, bits_of(x_slope));
-    put_word(sheet, at + 4, bits_of(y_slope));
+    put_slopes(sheet, at, x_slope, y_slope);
 }
 
 // Writes two slopes to the node whose bytes start at index `at`, and leaves its height.

@@ -9,7 +9,7 @@ use lib.ListN.{length, List·getD-eq-default}
 use Rattle.sheet_words.specs.Word.{byteAt}
 use Rattle.sheet_layout.specs.Format.{columns, rows, heightSize, nodesOffset, nodeSize, nodeOffset, statedSize}
 use Rattle.sheet_slopes.specs.Slopes.{slopeRefusal, withSlopes, SameHeights}
-use Rattle.sheet_slopes.specs.Steps.{Fillable}
+use Rattle.sheet_slopes.specs.InPlace.{Fillable}
 use Rattle.sheet_slopes.proofs.Chain.{refused-is}
 use Rattle.sheet_slopes.proofs.Fillable.{fillable}
 use Rattle.sheet_slopes.proofs.Filled.{filled}

@@ -5,7 +5,7 @@ use mathlib.Core.List.{List}
 use Rattle.sheet_layout.proofs.NodeRange.{slope-in}
 use Rattle.sheet_calls.proofs.WellFormed.{accepted-laws}
 use Rattle.sheet_slopes.specs.Slopes.{slopeRefusal}
-use Rattle.sheet_slopes.specs.Steps.{Fillable}
+use Rattle.sheet_slopes.specs.InPlace.{Fillable}
 use Rattle.sheet_slopes.proofs.Conditions.{thirteen}
 use Rattle.sheet_slopes.proofs.Chain.{slope-held}
 

@@ -22,7 +22,7 @@ use Rattle.sheet_calls.proofs.WellFormed.{accepted-laws}
 use Rattle.sheet_calls.proofs.Chains.{sheet-taken}
 use Rattle.sheet_assembly.proofs.Assembled.{assembly-laws, same-assembled}
 use Rattle.sheet_slopes.specs.Slopes.{SameHeights, filledX, filledY, filledBytes, slopeRefusal, withSlopes}
-use Rattle.sheet_slopes.specs.Steps.{Fillable, rowsFilled}
+use Rattle.sheet_slopes.specs.InPlace.{Fillable, rowsFilled}
 use Rattle.sheet_slopes.specs.SlopeLaws.{Filled}
 use Rattle.sheet_slopes.proofs.Chain.{slope-is, slope-held, set-is, refused-is}
 use Rattle.sheet_slopes.proofs.Fillable.{fillable}
@@ -78,9 +78,6 @@ full-filled {s} {t} f a =
 
 pub filled : (s : List ℕ) (t : ℕ) → slopeRefusal s t ≡ 0 → Filled s t (withSlopes s t)
 filled s t e = rw (set-is s t e) (full-filled (fillable s t e) (slope-held s t e .0))
-
-pub refused : (s : List ℕ) (t : ℕ) → ¬ (slopeRefusal s t ≡ 0) → withSlopes s t ≡ s
-refused = refused-is
 
 pub in-place-is : (s : List ℕ) (t : ℕ) → slopeRefusal s t ≡ 0 → withSlopes s t ≡ rowsFilled s t (rows s)
 in-place-is s t e = set-is s t e ∙ sym (in-place (fillable s t e))

@@ -14,7 +14,7 @@ use Rattle.sheet_layout.specs.Format.{columns, rows, slopeBytes, heightSize, no
 use Rattle.sheet_layout.proofs.Offsets.{node-fits, nodes-apart}
 use Rattle.sheet_layout.proofs.SameFront.{same-columns, same-rows}
 use Rattle.sheet_slopes.specs.Slopes.{filledX, filledY, SameHeights}
-use Rattle.sheet_slopes.specs.Steps.{Fillable, nodeFilled, rowFilled, rowsFilled}
+use Rattle.sheet_slopes.specs.InPlace.{Fillable, nodeFilled, rowFilled, rowsFilled}
 use Rattle.sheet_slopes.proofs.Same.{same-self, heights-front, same-then, same-fillable}
 
 pub slopes-size : (p q : ℤ) → length (slopeBytes p q) ≡ 4

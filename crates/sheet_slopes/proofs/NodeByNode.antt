@@ -14,7 +14,7 @@ use Rattle.sheet_assembly.specs.Assembled.{assembled, Whole}
 use Rattle.sheet_assembly.proofs.Stretches.{take-past, drop-past}
 use Rattle.sheet_assembly.proofs.Assembled.{assembly-laws, assembled-front}
 use Rattle.sheet_slopes.specs.Slopes.{filledX, filledY, filledBytes, SameHeights}
-use Rattle.sheet_slopes.specs.Steps.{Fillable, nodeFilled, rowFilled, rowsFilled}
+use Rattle.sheet_slopes.specs.InPlace.{Fillable, nodeFilled, rowFilled, rowsFilled}
 use Rattle.sheet_slopes.proofs.Same.{heights-front, same-then, same-fillable, same-filledX, same-filledY}
 use Rattle.sheet_slopes.proofs.InPlace.{slopes-size, fits, row-same, rows-same}
 

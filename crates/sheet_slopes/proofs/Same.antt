@@ -12,7 +12,7 @@ use Rattle.sheet_layout.proofs.SameFront.{SameFront, same-columns, same-rows, s
 use Rattle.sheet_calls.proofs.Conditions.{condition-laws}
 use Rattle.sheet_calls.proofs.StaysWellFormed.{same-rising}
 use Rattle.sheet_slopes.specs.Slopes.{previous, rise, distance, slopeAlong, filledX, filledY, tooSteep, someTooSteep, SameHeights}
-use Rattle.sheet_slopes.specs.Steps.{Fillable}
+use Rattle.sheet_slopes.specs.InPlace.{Fillable}
 use Rattle.sheet_slopes.proofs.Neighbours.{previous-≤, next-<}
 
 -- ---- on an axis

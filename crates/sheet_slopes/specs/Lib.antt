@@ -1,4 +1,4 @@
 pub mod Slopes
-pub mod Steps
+pub mod InPlace
 pub mod SlopeLaws
 pub mod Examples

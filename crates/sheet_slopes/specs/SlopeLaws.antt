@@ -12,7 +12,7 @@ use Rattle.sheet_layout.specs.Format.{columns, rows, lineX, lineY, node, height
 use Rattle.sheet_calls.specs.Refusals.{Accepted}
 use Rattle.sheet_calls.specs.WellFormed.{Rising}
 use Rattle.sheet_slopes.specs.Slopes.{SameHeights, previous, next, distance, slopeAlong, filledX, filledY, tooStiff, someTooSteep, slopeRules, slopeRefusal, withSlopes}
-use Rattle.sheet_slopes.specs.Steps.{rowsFilled}
+use Rattle.sheet_slopes.specs.InPlace.{rowsFilled}
 
 -- an inner node has the one before and the one after it; an end node stands in for the one that is missing
 pub record NeighbourLaws : Type 0 where
@@ -46,7 +46,7 @@ pub record SlopeLaws : Type 0 where
   -- what the call leaves
   pub filled : (s : List ℕ) (t : ℕ) → slopeRefusal s t ≡ 0 → Filled s t (withSlopes s t)
   pub refused : (s : List ℕ) (t : ℕ) → ¬ (slopeRefusal s t ≡ 0) → withSlopes s t ≡ s
-  -- but in the last four bytes of a node it leaves every byte
+  -- it leaves every byte but the last four of each node
   pub beside : (s : List ℕ) (t b : ℕ) → ((i j c : ℕ) → i < columns s → j < rows s → c < 4 → ¬ (b ≡ nodeOffset s i j + heightSize + c)) →
       byteAt (withSlopes s t) b ≡ byteAt s b
   -- it is the same in place, node by node
@@ -61,7 +61,7 @@ pub record SlopeLaws : Type 0 where
   pub flat : (s : List ℕ) → Accepted s → slopeRefusal s 0 ≡ 0
   pub flatX : (s : List ℕ) (i j : ℕ) → Accepted s → i < columns s → filledX s 0 i j ≡ pos 0
   pub flatY : (s : List ℕ) (i j : ℕ) → Accepted s → j < rows s → filledY s 0 i j ≡ pos 0
-  -- heights that rise evenly along an axis, by a / b steps per pixel from each line to the next, give t a / b rounded at every node, the ends too
+  -- heights that rise evenly along an axis, by a / b steps per pixel from each line to the next, give t a / b, rounded, at every node, the ends too
   pub even : (t n : ℕ) (line : ℕ → ℕ) (height : ℕ → ℤ) (a : ℤ) (b : ℕ) → 0 < b → 2 ≤ n → Rising line n →
       ((k : ℕ) → suc k < n → pos b *ℤ (height (suc k) -ℤ height k) ≡ grainsPerStep *ℤ (a *ℤ pos (line (suc k) - line k))) →
       (k : ℕ) → k < n → slopeAlong t n line height k ≡ round (pos t *ℤ a) b

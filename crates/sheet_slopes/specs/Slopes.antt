@@ -16,26 +16,26 @@ use Rattle.sheet_assembly.specs.Assembled.{assembled}
 
 -- ---- a slope along an axis: n nodes on n lines, k one of them, t the stiffness
 
--- the node before node k; the first node stands in for the one that is missing
+-- the node before node k; the first stands in for the one that is missing
 unfoldable pub previous : ℕ → ℕ
 previous zero = zero
 previous (suc k) = k
 
--- the node after it; so does the last
+-- the node after it; the last stands in for the one that is missing
 unfoldable pub next : ℕ → ℕ → ℕ
 next n k = cond (ltb (suc k) n) (suc k) k
 
--- t × (next height − previous height), heights in grains
-unfoldable pub rise : ℕ → ℕ → (ℕ → ℤ) → ℕ → ℤ
-rise t n height k = pos t *ℤ (height (next n k) -ℤ height (previous k))
+-- next height − previous height, in grains
+unfoldable pub rise : ℕ → (ℕ → ℤ) → ℕ → ℤ
+rise n height k = height (next n k) -ℤ height (previous k)
 
 -- next position − previous position
 unfoldable pub distance : ℕ → (ℕ → ℕ) → ℕ → ℕ
 distance n line k = line (next n k) - line (previous k)
 
--- their quotient, of heights in steps, rounded as levels are
+-- t × rise in steps / distance, rounded as levels are; the rise is in grains, so it is divided by those of a step too
 unfoldable pub slopeAlong : ℕ → ℕ → (ℕ → ℕ) → (ℕ → ℤ) → ℕ → ℤ
-slopeAlong t n line height k = round (rise t n height k) (natAbs grainsPerStep * distance n line k)
+slopeAlong t n line height k = round (pos t *ℤ rise n height k) (natAbs grainsPerStep * distance n line k)
 
 -- ---- the slopes of a sheet
 
@@ -82,9 +82,9 @@ withSlopes s t = cond (eqb (slopeRefusal s t) 0) (assembled s (filledBytes s t))
 
 -- ---- sheets that differ in their slopes alone
 
--- t has the length of s, its bytes before the nodes and the two bytes of each height
-pub record SameHeights (s t : List ℕ) : Type 0 where
-  pub size : length t ≡ length s
-  pub front : (k : ℕ) → k < nodesOffset s → byteAt t k ≡ byteAt s k
-  pub heights : (i j : ℕ) → i < columns s → j < rows s → (byteAt t (nodeOffset s i j) ≡ byteAt s (nodeOffset s i j))
-      × (byteAt t (nodeOffset s i j + 1) ≡ byteAt s (nodeOffset s i j + 1))
+-- r has the length of s, its bytes before the nodes and the two bytes of each height
+pub record SameHeights (s r : List ℕ) : Type 0 where
+  pub size : length r ≡ length s
+  pub front : (k : ℕ) → k < nodesOffset s → byteAt r k ≡ byteAt s k
+  pub heights : (i j : ℕ) → i < columns s → j < rows s → (byteAt r (nodeOffset s i j) ≡ byteAt s (nodeOffset s i j))
+      × (byteAt r (nodeOffset s i j + 1) ≡ byteAt s (nodeOffset s i j + 1))

@@ -40,7 +40,7 @@ module _ (line : ℕ → ℕ) (n k : ℕ) (r : Rising line n) (two : 2 ≤ n) (l
     abbrev pub grains : Operand
     grains = literal (pos 64) ⊠ unsigned w64 near tt
 
--- ---- what `grains_over` asks of the lines of a sheet; n and o are the count and the start that the code has
+-- ---- what `divisor` asks of the lines of a sheet; n and o are the count and the start that the code has
 
 pub x-lines : (s : List ℕ) → length s ≡ statedSize s → Rising (lineX s) (columns s) → 2 ≤ columns s → (i : ℕ) → i < columns s → {n : ℕ} → n ≡ columns s
     → (xLinesOffset + 2 * n ≤ length s) × Rising (lineFrom s xLinesOffset) n × (2 ≤ n) × (i < n)

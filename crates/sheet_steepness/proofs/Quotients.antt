@@ -1,4 +1,4 @@
--- A rise over a run as the code rounds it; and a quotient from −4,095 to 4,095, which is in range when it is rounded. Assumes nothing.
+-- A stiffened rise over its divisor as the code rounds it; and a quotient from −4,095 to 4,095, which is in range when it is rounded. Assumes nothing.
 use Prim.Native.Nat.{ℕ, _*_, _^_, _<_}
 use mathlib.Core.Path.{_≡_, refl, _∙_, subst, subst⁻¹}
 use mathlib.Core.Bool.{true}
@@ -26,24 +26,24 @@ pub in-range-rounded : (n d : ℤ) → pos 0 <ℤ d → (negsuc 4094 *ℤ d) ≤
 in-range-rounded n (pos d) p low high = gentle n d (ltb→lt 0 d (p .lt)) low high
 in-range-rounded n (negsuc d) p low high = absurd (p .lt)
 
--- ---- r and g are a rise and a run as the code has them; what it hands on is what the machine reads back
+-- ---- r and g are a stiffened rise and its divisor as the code has them; what it hands on is what the machine reads back
 
 module _ {r g : ℤ} (x : r within (2 ^ 28)) (y : Denominates g × (g within 8192)) where
-  same-run : toZ w64 (ofZ w64 g) ≡ g
-  same-run = known w64 (y .1) tt .reads
+  same-divisor : toZ w64 (ofZ w64 g) ≡ g
+  same-divisor = known w64 (y .1) tt .reads
 
   pub handed-on : (toZ w64 (ofZ w64 r) within (2 ^ 28)) × Denominates (toZ w64 (ofZ w64 g)) × (toZ w64 (ofZ w64 g) within 8192)
-  handed-on = (read-within (known w64 x tt), subst⁻¹ Denominates same-run (y .0), read-within (known w64 (y .1) tt))
+  handed-on = (read-within (known w64 x tt), subst⁻¹ Denominates same-divisor (y .0), read-within (known w64 (y .1) tt))
 
   -- what `round` asks
   pub ratio : Ratio (toZ w64 (ofZ w64 r)) (toZ w64 (ofZ w64 g))
   ratio = record { numerator = within-mono (handed-on .0) (lit≤ tt); denominator = handed-on .1 }
 
   pub same-quotient : round (toZ w64 (ofZ w64 r)) (natAbs (toZ w64 (ofZ w64 g))) ≡ round r (natAbs g)
-  same-quotient = λ i. round (known w64 x tt .reads i) (natAbs (same-run i))
+  same-quotient = λ i. round (known w64 x tt .reads i) (natAbs (same-divisor i))
 
   -- and what it gives
-  pub slope-is : (t n : ℕ) (line : ℕ → ℕ) (height : ℕ → ℤ) (k : ℕ) → r ≡ rise t n height k → g ≡ pos (natAbs grainsPerStep * distance n line k)
+  pub slope-is : (t n : ℕ) (line : ℕ → ℕ) (height : ℕ → ℤ) (k : ℕ) → r ≡ pos t *ℤ rise n height k → g ≡ pos (natAbs grainsPerStep * distance n line k)
       → round (toZ w64 (ofZ w64 r)) (natAbs (toZ w64 (ofZ w64 g))) ≡ slopeAlong t n line height k
   unfolding slopeAlong
   slope-is t n line height k e f = same-quotient ∙ rw (e, f) refl

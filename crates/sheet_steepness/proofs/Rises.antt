@@ -17,7 +17,7 @@ handed-on x y = (read-within (known w64 y tt), read-within (known w64 x tt))
 pub rise-is : (t n : ℕ) (height : ℕ → ℤ) (k : ℕ) {m p : ℕ} {a b r : ℤ}
     → (a ≡ height m) × (a within (2 ^ 21)) → m ≡ next n k → (b ≡ height p) × (b within (2 ^ 21)) → p ≡ previous k
     → (r ≡ pos t *ℤ (toZ w64 (ofZ w64 a) -ℤ toZ w64 (ofZ w64 b))) × (r within (2 ^ 28)) → mag r < 2 ^ hbits w64
-    → let z = toZ w64 (ofZ w64 r) in (z ≡ rise t n height k) × (z within (2 ^ 28))
+    → let z = toZ w64 (ofZ w64 r) in (z ≡ pos t *ℤ rise n height k) × (z within (2 ^ 28))
 unfolding rise
 rise-is t n height k x e y f r ok =
     let h = known w64 (x .1) tt .reads in

@@ -5,10 +5,10 @@ ghost use lib.IntN.{pos, natAbs, _-ℤ_, _*ℤ_};
 ghost use lib.ListN.{length};
 ghost use Rattle.integers.specs.Within.{_within_};
 ghost use Rattle.integers.specs.Ratio.{Denominates};
-ghost use Rattle.sheet_layout.specs.Format.{columns, rows, lineFrom, statedSize, grainsPerStep, heightAt};
+ghost use Rattle.sheet_layout.specs.Format.{columns, rows, lineFrom, lineX, lineY, statedSize, grainsPerStep, heightAt};
 ghost use Rattle.sheet_calls.specs.WellFormed.{Rising};
 ghost use Rattle.sheet_slopes.specs.Slopes.{previous, next, rise, distance, filledX, filledY};
-ghost use Rattle.sheet_slopes.specs.Steps.{Fillable};
+ghost use Rattle.sheet_slopes.specs.InPlace.{Fillable};
 use integers::round;
 use sheet_layout::X_LINES_OFFSET;
 use sheet_layout::header::columns;
@@ -22,8 +22,8 @@ pub fn x_slope(sheet: &[u8], stiffness: u32, column: usize, row: usize) -> i64
     requires { ⌜ Fillable (now sheet) stiffness × (column < columns (now sheet)) × (row < rows (now sheet)) ⌝ }
     ensures { λ r. ⌜ r ≡ filledX (now (sheet .entry)) stiffness column row ⌝ }
 {
-    let run = grains_over(sheet, X_LINES_OFFSET, columns(sheet), column);
-    round(x_rise(sheet, stiffness, column, row), run)
+    let divisor = x_divisor(sheet, column);
+    round(x_stiffened(sheet, stiffness, column, row), divisor)
 }
 
 // And along y.
@@ -31,23 +31,23 @@ pub fn y_slope(sheet: &[u8], stiffness: u32, column: usize, row: usize) -> i64
     requires { ⌜ Fillable (now sheet) stiffness × (column < columns (now sheet)) × (row < rows (now sheet)) ⌝ }
     ensures { λ r. ⌜ r ≡ filledY (now (sheet .entry)) stiffness column row ⌝ }
 {
-    let run = grains_over(sheet, y_lines_offset(sheet), rows(sheet), row);
-    round(y_rise(sheet, stiffness, column, row), run)
+    let divisor = y_divisor(sheet, row);
+    round(y_stiffened(sheet, stiffness, column, row), divisor)
 }
 
-// The stiffness times what the height rises from the node before to the node after, in grains: along x, and along y.
-pub fn x_rise(sheet: &[u8], stiffness: u32, column: usize, row: usize) -> i64
+// The stiffness times the rise from the node before to the node after, in grains: along x, and along y.
+pub fn x_stiffened(sheet: &[u8], stiffness: u32, column: usize, row: usize) -> i64
     requires { ⌜ (statedSize (now sheet) ≤ length (now sheet)) × (stiffness ≤ 64) × (column < columns (now sheet)) × (row < rows (now sheet)) ⌝ }
-    ensures { λ r. ⌜ (r ≡ rise stiffness (columns (now (sheet .entry))) (λ k. heightAt (now (sheet .entry)) k row) column) × (r within (2 ^ 28)) ⌝ }
+    ensures { λ r. ⌜ (r ≡ pos stiffness *ℤ rise (columns (now (sheet .entry))) (λ k. heightAt (now (sheet .entry)) k row) column) × (r within (2 ^ 28)) ⌝ }
 {
     let after = height(sheet, next(columns(sheet), column), row);
     let before = height(sheet, previous(column), row);
     stiffened(stiffness, before, after)
 }
 
-pub fn y_rise(sheet: &[u8], stiffness: u32, column: usize, row: usize) -> i64
+pub fn y_stiffened(sheet: &[u8], stiffness: u32, column: usize, row: usize) -> i64
     requires { ⌜ (statedSize (now sheet) ≤ length (now sheet)) × (stiffness ≤ 64) × (column < columns (now sheet)) × (row < rows (now sheet)) ⌝ }
-    ensures { λ r. ⌜ (r ≡ rise stiffness (rows (now (sheet .entry))) (λ k. heightAt (now (sheet .entry)) column k) row) × (r within (2 ^ 28)) ⌝ }
+    ensures { λ r. ⌜ (r ≡ pos stiffness *ℤ rise (rows (now (sheet .entry))) (λ k. heightAt (now (sheet .entry)) column k) row) × (r within (2 ^ 28)) ⌝ }
 {
     let after = height(sheet, column, next(rows(sheet), row));
     let before = height(sheet, column, previous(row));
@@ -61,8 +61,23 @@ fn stiffened(stiffness: u32, before: i64, after: i64) -> i64
     stiffness as i64 * (after - before)
 }
 
-// The distance from the line before to the line after, of an axis whose positions start at an index, times the grains of a step.
-pub fn grains_over(sheet: &[u8], start: usize, lines: usize, k: usize) -> i64
+// What it is divided by: the distance from the line before to the line after, times the grains of a step. Along x, and along y.
+pub fn x_divisor(sheet: &[u8], column: usize) -> i64
+    requires { ⌜ (length (now sheet) ≡ statedSize (now sheet)) × Rising (lineX (now sheet)) (columns (now sheet)) × (2 ≤ columns (now sheet)) × (column < columns (now sheet)) ⌝ }
+    ensures { λ r. ⌜ (r ≡ pos (natAbs grainsPerStep * distance (columns (now (sheet .entry))) (lineX (now (sheet .entry))) column)) × Denominates r × (r within 8192) ⌝ }
+{
+    divisor(sheet, X_LINES_OFFSET, columns(sheet), column)
+}
+
+pub fn y_divisor(sheet: &[u8], row: usize) -> i64
+    requires { ⌜ (length (now sheet) ≡ statedSize (now sheet)) × Rising (lineY (now sheet)) (rows (now sheet)) × (2 ≤ rows (now sheet)) × (row < rows (now sheet)) ⌝ }
+    ensures { λ r. ⌜ (r ≡ pos (natAbs grainsPerStep * distance (rows (now (sheet .entry))) (lineY (now (sheet .entry))) row)) × Denominates r × (r within 8192) ⌝ }
+{
+    divisor(sheet, y_lines_offset(sheet), rows(sheet), row)
+}
+
+// Of an axis with so many lines, whose positions start at an index.
+fn divisor(sheet: &[u8], start: usize, lines: usize, k: usize) -> i64
     requires { ⌜ (start + 2 * lines ≤ length (now sheet)) × Rising (lineFrom (now sheet) start) lines × (2 ≤ lines) × (k < lines) ⌝ }
     ensures { λ r. ⌜ (r ≡ pos (natAbs grainsPerStep * distance lines (lineFrom (now (sheet .entry)) start) k)) × Denominates r × (r within 8192) ⌝ }
 {

@@ -131,11 +131,15 @@ module _ (s : List ℕ) (i j : ℕ) (v : Node) (e : settingRefusal s i j v ≡ 0
 
   set-level : read t (lineX s i) (lineY s j) 0 ≡ answered 0 ((grainsPerStep *ℤ v .storedHeight) ∷ [])
   unfolding heightAt
-  set-level = rw (lines .0, lines .1) (read-level t i j (has .accepted) (has .column) (has .row) ∙ ap (λ (n : Node). answered 0 ((grainsPerStep *ℤ n .storedHeight) ∷ [])) (back .numbers))
+  set-level =
+      rw (lines .0, lines .1) (read-level t i j (has .accepted) (has .column) (has .row))
+      ∙ ap (λ (n : Node). answered 0 ((grainsPerStep *ℤ n .storedHeight) ∷ [])) (back .numbers)
 
   set-tilt : read t (lineX s i) (lineY s j) 1 ≡ answered 1 (v .slopeX ∷ v .slopeY ∷ [])
   unfolding slopeXAt slopeYAt
-  set-tilt = rw (lines .0, lines .1) (read-tilt t i j (has .accepted) (has .column) (has .row) ∙ ap (λ (n : Node). answered 1 (n .slopeX ∷ n .slopeY ∷ [])) (back .numbers))
+  set-tilt =
+      rw (lines .0, lines .1) (read-tilt t i j (has .accepted) (has .column) (has .row))
+      ∙ ap (λ (n : Node). answered 1 (n .slopeX ∷ n .slopeY ∷ [])) (back .numbers)
 
 pub at-nodes : AtNodes
 at-nodes = record {

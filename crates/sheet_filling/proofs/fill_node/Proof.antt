@@ -7,7 +7,7 @@ use borrow.Author.Needs.{needs}
 use Rattle.sheet_words.specs.Word.{replaced}
 use Rattle.sheet_layout.specs.Format.{heightSize, slopeBytes, slopeIn}
 use Rattle.sheet_slopes.specs.Slopes.{filledX, filledY}
-use Rattle.sheet_slopes.specs.Steps.{nodeFilled}
+use Rattle.sheet_slopes.specs.InPlace.{nodeFilled}
 use Rattle.sheet_filling.proofs.Casts.{narrow-fits, narrow-is, narrow-in}
 use Rattle.sheet_filling.proofs.fill_node.Statement.{statement}
 use Rattle.sheet_filling.proofs.fill_node.Tie as tie

@@ -8,7 +8,7 @@ use native.Mathlib.Numerals.{add-one}
 use native.Mathlib.Omega.{arith}
 use lib.ListN.{length}
 use Rattle.sheet_layout.specs.Format.{columns}
-use Rattle.sheet_slopes.specs.Steps.{rowFilled}
+use Rattle.sheet_slopes.specs.InPlace.{rowFilled}
 use Rattle.sheet_slopes.proofs.InPlace.{row-fillable, row-columns, row-rows, row-same}
 use Rattle.sheet_filling.proofs.fill_row.Statement.{statement}
 use Rattle.sheet_filling.proofs.fill_row.Tie as tie

@@ -8,7 +8,7 @@ use native.Mathlib.Numerals.{add-one}
 use native.Mathlib.Omega.{arith}
 use lib.ListN.{length}
 use Rattle.sheet_layout.specs.Format.{rows}
-use Rattle.sheet_slopes.specs.Steps.{rowsFilled}
+use Rattle.sheet_slopes.specs.InPlace.{rowsFilled}
 use Rattle.sheet_slopes.proofs.InPlace.{rows-fillable, rows-columns, rows-rows, rows-same}
 use Rattle.sheet_filling.proofs.fill_rows.Statement.{statement}
 use Rattle.sheet_filling.proofs.fill_rows.Tie as tie

@@ -1,4 +1,4 @@
--- `sheet_steepness::slopes::grains_over` meets its contract. Assumes nothing.
+-- `sheet_steepness::slopes::divisor` meets its contract. Assumes nothing.
 use denote.Ref.{now}
 use Prim.Native.Nat.{ℕ}
 use mathlib.Core.Path.{_≡_, _∙_, ap, subst⁻¹}
@@ -12,8 +12,8 @@ use Rattle.sheet_layout.specs.Format.{lineFrom}
 use Rattle.sheet_slopes.specs.Slopes.{previous, next}
 use Rattle.sheet_slopes.proofs.Neighbours.{previous-≤, next-<}
 use Rattle.sheet_steepness.proofs.Gaps.{denominates, rising, gap-is, grains}
-use Rattle.sheet_steepness.proofs.slopes.grains_over.Statement.{statement}
-use Rattle.sheet_steepness.proofs.slopes.grains_over.Tie as tie
+use Rattle.sheet_steepness.proofs.slopes.divisor.Statement.{statement}
+use Rattle.sheet_steepness.proofs.slopes.divisor.Tie as tie
 
 line-from-requires : tie.Need-line-from-requires
 line-from-requires c κs =
@@ -52,8 +52,8 @@ returns c =
     let d = denominates (line c) _ _ (p .1) (p .2) (p .3) in
     (e, subst⁻¹ Denominates e (d .0), subst⁻¹ (λ z. z within 8192) e (d .1))
 
-pub grains-over-spec : {M : Type 1} → statement M
-grains-over-spec =
+pub divisor-spec : {M : Type 1} → statement M
+divisor-spec =
     tie.close
     (tie.spec
     (λ c κs. search needs)

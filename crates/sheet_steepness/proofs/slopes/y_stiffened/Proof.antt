@@ -1,4 +1,4 @@
--- `sheet_steepness::slopes::y_rise` meets its contract. Assumes nothing.
+-- `sheet_steepness::slopes::y_stiffened` meets its contract. Assumes nothing.
 use denote.Ref.{now}
 use mathlib.Core.Path.{_≡_, _∙_, ap}
 use borrow.Author.Needs.{needs}
@@ -7,8 +7,8 @@ use Rattle.sheet_layout.specs.Format.{rows, heightAt}
 use Rattle.sheet_slopes.specs.Slopes.{previous, next}
 use Rattle.sheet_slopes.proofs.Neighbours.{previous-≤, next-<}
 use Rattle.sheet_steepness.proofs.Rises.{handed-on, rise-is}
-use Rattle.sheet_steepness.proofs.slopes.y_rise.Statement.{statement}
-use Rattle.sheet_steepness.proofs.slopes.y_rise.Tie as tie
+use Rattle.sheet_steepness.proofs.slopes.y_stiffened.Statement.{statement}
+use Rattle.sheet_steepness.proofs.slopes.y_stiffened.Tie as tie
 
 -- the neighbours that the code has
 next-is : (c : tie.After-next) → let a = c .before .before .before .args in c .next .result ≡ next (rows (now (a .sheet))) (a .row)
@@ -27,8 +27,8 @@ returns c =
     rise-is _ _ (λ k. heightAt (now (s .args .sheet)) (s .args .column) k) _ (d .before .before .height .ensures) (next-is (d .before .before .before))
     (d .height2 .ensures) (d .before .previous .ensures) (c .stiffened .ensures) (c .stiffened .ok)
 
-pub y-rise-spec : {M : Type 1} → statement M
-y-rise-spec =
+pub y-stiffened-spec : {M : Type 1} → statement M
+y-stiffened-spec =
     tie.close
     (tie.spec
     (λ c κs. search needs)

@@ -1,4 +1,4 @@
--- `sheet_steepness::slopes::x_rise` meets its contract. Assumes nothing.
+-- `sheet_steepness::slopes::x_stiffened` meets its contract. Assumes nothing.
 use denote.Ref.{now}
 use mathlib.Core.Path.{_≡_, _∙_, ap}
 use borrow.Author.Needs.{needs}
@@ -7,8 +7,8 @@ use Rattle.sheet_layout.specs.Format.{columns, heightAt}
 use Rattle.sheet_slopes.specs.Slopes.{previous, next}
 use Rattle.sheet_slopes.proofs.Neighbours.{previous-≤, next-<}
 use Rattle.sheet_steepness.proofs.Rises.{handed-on, rise-is}
-use Rattle.sheet_steepness.proofs.slopes.x_rise.Statement.{statement}
-use Rattle.sheet_steepness.proofs.slopes.x_rise.Tie as tie
+use Rattle.sheet_steepness.proofs.slopes.x_stiffened.Statement.{statement}
+use Rattle.sheet_steepness.proofs.slopes.x_stiffened.Tie as tie
 
 -- the neighbours that the code has
 next-is : (c : tie.After-next) → let a = c .before .before .before .args in c .next .result ≡ next (columns (now (a .sheet))) (a .column)
@@ -27,8 +27,8 @@ returns c =
     rise-is _ _ (λ k. heightAt (now (s .args .sheet)) k (s .args .row)) _ (d .before .before .height .ensures) (next-is (d .before .before .before))
     (d .height2 .ensures) (d .before .previous .ensures) (c .stiffened .ensures) (c .stiffened .ok)
 
-pub x-rise-spec : {M : Type 1} → statement M
-x-rise-spec =
+pub x-stiffened-spec : {M : Type 1} → statement M
+x-stiffened-spec =
     tie.close
     (tie.spec
     (λ c κs. search needs)
