@@ -15,7 +15,7 @@ use Rattle.sheet_layout.specs.Format.{columns, rows, lineX, lineY, nodeAt, heig
 use Rattle.sheet_calls.specs.Refusals.{Accepted}
 use Rattle.sheet_calls.specs.WellFormed.{Rising, WellFormed}
 use Rattle.sheet_calls.proofs.WellFormed.{accepted-laws}
-use Rattle.sheet_slopes.specs.Slopes.{previous, next, distance, SameHeights, slopeAlong, filledX, filledY, slopeRefusal, withSlopes}
+use Rattle.sheet_slopes.specs.Slopes.{previous, next, rise, distance, SameHeights, slopeAlong, filledX, filledY, slopeRefusal, withSlopes}
 use Rattle.sheet_slopes.specs.SlopeLaws.{Filled}
 use Rattle.sheet_slopes.proofs.Chain.{slope-held}
 use Rattle.sheet_slopes.proofs.Neighbours.{neighbour-laws, last-is}
@@ -37,11 +37,11 @@ unfolding rounded
 quotient-is k z d e = ap (round (pos k *ℤ z)) (omega (arith, e))
 
 module _ (k n : ℕ) (line : ℕ → ℕ) (height slope : ℕ → ℤ) (two : 2 ≤ n)
-    (are : (i : ℕ) → i < n → slope i ≡ round (pos k *ℤ (height (next n i) -ℤ height (previous i))) (distance n line i)) where
+    (are : (i : ℕ) → i < n → slope i ≡ round (pos k *ℤ rise n height i) (distance n line i)) where
   -- of the node i with a before it and b after it
   between : (i a b : ℕ) (d : Positive) → i < n → previous i ≡ a → next n i ≡ b → line b ≡ line a + d .number
       → slope i ≡ rounded (pos k ·ℚ whole (height b -ℤ height a) ÷ d)
-  unfolding distance
+  unfolding rise distance
   between i a b d l before after e =
       are i l ∙ rw (before, after) (quotient-is k (height b -ℤ height a) d (omega (arith, e)))
 

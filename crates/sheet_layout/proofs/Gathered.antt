@@ -1,8 +1,8 @@
 -- The laws of `some` by which a loop gathers a flag, and by which one loop over all numbers does for loops over rows, nodes and their numbers. Assumes nothing.
-use Prim.Native.Nat.{ℕ, zero, suc, _+_, _*_, _≤_}
+use Prim.Native.Nat.{ℕ, zero, suc, _+_, _*_, _≤_, _<_}
 use mathlib.Core.Path.{_≡_, refl, sym}
 use mathlib.Core.Bool.{Bool, _||_, or-false, or-assoc}
-use native.Mathlib.Nat.{le-antisymm, add-zero, add-suc, zero-mul, suc-mul}
+use native.Mathlib.Nat.{le-antisymm, le-step, lt-suc-self, add-zero, add-suc, zero-mul, suc-mul}
 use native.Mathlib.Numerals.{add-one}
 use Rattle.sheet_layout.specs.Some.{some}
 
@@ -17,10 +17,10 @@ gathered-all p k n flag a b e = rw (le-antisymm b a) e
 
 -- ---- one loop for several
 
-pub some-cong : (p q : ℕ → Bool) (n : ℕ) → ((k : ℕ) → p k ≡ q k) → some p n ≡ some q n
+pub some-cong : (p q : ℕ → Bool) (n : ℕ) → ((k : ℕ) → k < n → p k ≡ q k) → some p n ≡ some q n
 unfolding some
 some-cong p q zero h = refl
-some-cong p q (suc n) h = rw (some-cong p q n h, h n) refl
+some-cong p q (suc n) h = rw (some-cong p q n (λ k l. h k (le-step l)), h n (lt-suc-self n)) refl
 
 some-append : (p : ℕ → Bool) (a b : ℕ) → some p (a + b) ≡ some p a || some (λ k. p (a + k)) b
 unfolding some

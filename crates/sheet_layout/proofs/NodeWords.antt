@@ -76,4 +76,4 @@ module _ (s : List ℕ) where
   some-out =
       let count : 3 * (columns s * rows s) ≡ rows s * columns s * 3 = mul-comm 3 _ ∙ ap (λ k. k * 3) (mul-comm (columns s) (rows s)) in
       rw (count, some-rows wrongNumber 3 (rows s * columns s), some-rows (λ k. some (λ i. wrongNumber (k * 3 + i)) 3) (columns s) (rows s))
-      (some-cong _ _ (rows s) (λ j. some-cong _ _ (columns s) (λ i. sym (wrong-node i j))))
+      (some-cong _ _ (rows s) (λ j k. some-cong _ _ (columns s) (λ i h. sym (wrong-node i j))))

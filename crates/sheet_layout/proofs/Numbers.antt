@@ -1,7 +1,7 @@
 -- A node's numbers in signed code: they have 16 bits, and three words are the node's bytes. Assumes nothing.
 use Prim.Native.Nat.{ℕ, _+_, _≤_}
 use mathlib.Core.Path.{_≡_, _∙_, ap}
-use mathlib.Core.List.{List, _++_}
+use mathlib.Core.List.{List}
 use mathlib.Core.Bool.{true}
 use native.Mathlib.Nat.{add-assoc}
 use native.Mathlib.Omega.{arith}

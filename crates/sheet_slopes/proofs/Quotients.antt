@@ -27,7 +27,7 @@ use Rattle.sheet_slopes.proofs.Chain.{slope-taken}
 
 -- of heights in steps: 64 cancels
 steps-along : (t n : ℕ) (line : ℕ → ℕ) (stored : ℕ → ℤ) (k : ℕ) → 0 < distance n line k
-    → slopeAlong t n line (λ m. grainsPerStep *ℤ stored m) k ≡ round (pos t *ℤ (stored (next n k) -ℤ stored (previous k))) (distance n line k)
+    → slopeAlong t n line (λ m. grainsPerStep *ℤ stored m) k ≡ round (pos t *ℤ rise n stored k) (distance n line k)
 unfolding slopeAlong rise
 steps-along t n line stored k p =
     ap₂ round
@@ -96,12 +96,12 @@ module _ {s : List ℕ} (accepted : Accepted s) where
   across-y = let w = accepted-laws .sound s accepted in distance-above (rows s) (w .fewRows) (w .risingY)
 
 pub steps-x : (s : List ℕ) (t i j : ℕ) → Accepted s → i < columns s → filledX s t i j
-    ≡ round (pos t *ℤ (nodeAt s (next (columns s) i) j .storedHeight -ℤ nodeAt s (previous i) j .storedHeight)) (distance (columns s) (lineX s) i)
+    ≡ round (pos t *ℤ rise (columns s) (λ k. nodeAt s k j .storedHeight) i) (distance (columns s) (lineX s) i)
 unfolding filledX heightAt
 steps-x s t i j accepted l = steps-along t (columns s) (lineX s) (λ k. nodeAt s k j .storedHeight) i (across-x accepted i l)
 
 pub steps-y : (s : List ℕ) (t i j : ℕ) → Accepted s → j < rows s → filledY s t i j
-    ≡ round (pos t *ℤ (nodeAt s i (next (rows s) j) .storedHeight -ℤ nodeAt s i (previous j) .storedHeight)) (distance (rows s) (lineY s) j)
+    ≡ round (pos t *ℤ rise (rows s) (λ k. nodeAt s i k .storedHeight) j) (distance (rows s) (lineY s) j)
 unfolding filledY heightAt
 steps-y s t i j accepted l = steps-along t (rows s) (lineY s) (λ k. nodeAt s i k .storedHeight) j (across-y accepted j l)
 

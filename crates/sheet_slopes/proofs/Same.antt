@@ -1,13 +1,11 @@
 -- Two sheets, s and r, with the same bytes before the nodes and the same heights: what filling makes of them is the same. Assumes nothing.
-use Prim.Native.Nat.{ℕ, zero, suc, _<_}
+use Prim.Native.Nat.{ℕ, _<_}
 use mathlib.Core.Path.{_≡_, refl, sym, _∙_}
 use mathlib.Core.List.{List}
-use mathlib.Core.Bool.{Bool}
-use native.Mathlib.Nat.{le-step, lt-suc-self}
 use native.Mathlib.Omega.{arith}
 use lib.IntN.{ℤ}
-use Rattle.sheet_layout.specs.Some.{some}
 use Rattle.sheet_layout.specs.Format.{columns, rows, nodeAt, heightAt}
+use Rattle.sheet_layout.proofs.Gathered.{some-cong}
 use Rattle.sheet_layout.proofs.SameFront.{SameFront, same-columns, same-rows, same-lineX, same-lineY, same-offset}
 use Rattle.sheet_calls.proofs.Conditions.{condition-laws}
 use Rattle.sheet_calls.proofs.StaysWellFormed.{same-rising}
@@ -24,11 +22,6 @@ along-same t n line line′ height height′ lines heights k h =
     let before : previous k < n = omega (arith, previous-≤ k) in
     let after = next-< n k h in
     rw (lines _ after, lines _ before, heights _ after, heights _ before) refl
-
-some-same : (p q : ℕ → Bool) (n : ℕ) → ((k : ℕ) → k < n → p k ≡ q k) → some p n ≡ some q n
-unfolding some
-some-same p q zero same = refl
-some-same p q (suc n) same = rw (some-same p q n (λ k h. same k (le-step h)), same n (lt-suc-self n)) refl
 
 -- ---- of sheets
 
@@ -63,7 +56,7 @@ module _ {s r : List ℕ} (same : SameHeights s r) where
   unfolding someTooSteep tooSteep
   same-steep t =
       rw (same-columns heights-front, same-rows heights-front)
-      (some-same _ _ (rows s) (λ j k. some-same _ _ (columns s) (λ i h. rw (same-filledX t i j h k, same-filledY t i j h k) refl)))
+      (some-cong _ _ (rows s) (λ j k. some-cong _ _ (columns s) (λ i h. rw (same-filledX t i j h k, same-filledY t i j h k) refl)))
 
   pub same-fillable : {t : ℕ} → Fillable s t → Fillable r t
   same-fillable {t} f =

@@ -1,5 +1,5 @@
 -- Slopes from heights: which nodes are neighbours, what the conditions say, what filling leaves, and how slopes follow heights. Assumes nothing.
-use Prim.Native.Nat.{ℕ, suc, _+_, _-_, _*_, _≤_, _<_}
+use Prim.Native.Nat.{ℕ, suc, _+_, _-_, _≤_, _<_}
 use mathlib.Core.Path.{_≡_}
 use mathlib.Core.Logic.{_↔_}
 use mathlib.Core.List.{List, [], _∷_, map}
@@ -11,7 +11,7 @@ use Rattle.sheet_words.specs.Word.{byteAt}
 use Rattle.sheet_layout.specs.Format.{columns, rows, lineX, lineY, node, heightSize, nodeOffset, nodeAt, grainsPerStep}
 use Rattle.sheet_calls.specs.Refusals.{Accepted}
 use Rattle.sheet_calls.specs.WellFormed.{Rising}
-use Rattle.sheet_slopes.specs.Slopes.{SameHeights, previous, next, distance, slopeAlong, filledX, filledY, tooStiff, someTooSteep, slopeRules, slopeRefusal, withSlopes}
+use Rattle.sheet_slopes.specs.Slopes.{SameHeights, previous, next, rise, distance, slopeAlong, filledX, filledY, tooStiff, someTooSteep, slopeRules, slopeRefusal, withSlopes}
 use Rattle.sheet_slopes.specs.InPlace.{rowsFilled}
 
 -- an inner node has the one before and the one after it; an end node stands in for the one that is missing
@@ -40,9 +40,9 @@ pub record SlopeLaws : Type 0 where
       ↔ ((j : ℕ) → j < rows s → (i : ℕ) → i < columns s → (filledX s t i j within 4095) × (filledY s t i j within 4095))
   -- on the heights in steps, as 02 has it
   pub stepsX : (s : List ℕ) (t i j : ℕ) → Accepted s → i < columns s → filledX s t i j
-      ≡ round (pos t *ℤ (nodeAt s (next (columns s) i) j .storedHeight -ℤ nodeAt s (previous i) j .storedHeight)) (distance (columns s) (lineX s) i)
+      ≡ round (pos t *ℤ rise (columns s) (λ k. nodeAt s k j .storedHeight) i) (distance (columns s) (lineX s) i)
   pub stepsY : (s : List ℕ) (t i j : ℕ) → Accepted s → j < rows s → filledY s t i j
-      ≡ round (pos t *ℤ (nodeAt s i (next (rows s) j) .storedHeight -ℤ nodeAt s i (previous j) .storedHeight)) (distance (rows s) (lineY s) j)
+      ≡ round (pos t *ℤ rise (rows s) (λ k. nodeAt s i k .storedHeight) j) (distance (rows s) (lineY s) j)
   -- what the call leaves
   pub filled : (s : List ℕ) (t : ℕ) → slopeRefusal s t ≡ 0 → Filled s t (withSlopes s t)
   pub refused : (s : List ℕ) (t : ℕ) → ¬ (slopeRefusal s t ≡ 0) → withSlopes s t ≡ s

@@ -1,5 +1,5 @@
 -- What a node's neighbours rise by, from their heights a and b as the code has them. Assumes nothing.
-use Prim.Native.Nat.{ℕ, _^_, _<_}
+use Prim.Native.Nat.{ℕ, _^_, _≤_, _<_}
 use mathlib.Core.Path.{_≡_, refl, _∙_, subst⁻¹}
 use lib.IntN.{ℤ, pos, _-ℤ_, _*ℤ_}
 use lib.Signed.{mag}
@@ -10,8 +10,9 @@ use Rattle.integers.proofs.Operand.{known, read-within, unchanged}
 use Rattle.sheet_slopes.specs.Slopes.{previous, next, rise}
 
 -- what the code hands on
-pub handed-on : {a b : ℤ} → a within (2 ^ 21) → b within (2 ^ 21) → (toZ w64 (ofZ w64 b) within (2 ^ 21)) × (toZ w64 (ofZ w64 a) within (2 ^ 21))
-handed-on x y = (read-within (known w64 y tt), read-within (known w64 x tt))
+pub heights-on : {t : ℕ} {a b : ℤ} → t ≤ 64 → a within (2 ^ 21) → b within (2 ^ 21)
+    → (t ≤ 64) × (toZ w64 (ofZ w64 b) within (2 ^ 21)) × (toZ w64 (ofZ w64 a) within (2 ^ 21))
+heights-on h x y = (h, read-within (known w64 y tt), read-within (known w64 x tt))
 
 -- and what comes back, r: the heights are those of the nodes after and before, m and p as the code has these
 pub rise-is : (t n : ℕ) (height : ℕ → ℤ) (k : ℕ) {m p : ℕ} {a b r : ℤ}

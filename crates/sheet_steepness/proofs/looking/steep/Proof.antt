@@ -1,12 +1,12 @@
 -- `sheet_steepness::looking::steep` meets its contract. Assumes nothing.
-use mathlib.Core.Path.{sym, _∙_, ap}
+use mathlib.Core.Path.{refl, sym, _∙_, ap}
 use mathlib.Core.Bool.{not}
 use lib.IntN.{pos, negsuc}
 use mir.Syntax.{w64}
 use Rattle.integers.proofs.Operand.{Operand, literal, known, unchanged, _⊠_, asks, stored, at-most}
 use Rattle.sheet_layout.specs.Format.{slopeIn}
 use Rattle.sheet_layout.proofs.NodeRange.{in-range}
-use Rattle.sheet_steepness.proofs.Quotients.{in-range-rounded, ratio, same-quotient}
+use Rattle.sheet_steepness.proofs.Quotients.{in-range-rounded, ratio, quotient-is}
 use Rattle.sheet_steepness.proofs.looking.steep.Statement.{statement}
 use Rattle.sheet_steepness.proofs.looking.steep.Tie as tie
 
@@ -30,7 +30,7 @@ returns c =
 returns-2 : tie.Need-returns-2
 returns-2 c =
     let p = c .before .before .pre in
-    ap not (in-range _ ∙ ap slopeIn (unchanged w64 (c .round .ok) ∙ c .round .ensures ∙ same-quotient (p .0) (p .1, p .2)))
+    ap not (in-range _ ∙ ap slopeIn (unchanged w64 (c .round .ok) ∙ c .round .ensures ∙ quotient-is (refl, p .0) (refl, p .1, p .2)))
 
 pub steep-spec : {M : Type 1} → statement M
 steep-spec =
@@ -39,5 +39,5 @@ steep-spec =
     (λ c. asks w64 (lowest c) tt)
     (λ c. asks w64 (highest (c .before)) tt)
     returns
-    (λ c κs. let p = c .before .pre in ratio (p .0) (p .1, p .2))
+    (λ c κs. let p = c .before .pre in ratio (refl, p .0) (refl, p .1, p .2))
     returns-2)

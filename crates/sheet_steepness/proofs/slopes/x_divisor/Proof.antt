@@ -1,25 +1,21 @@
 -- `sheet_steepness::slopes::x_divisor` meets its contract. Assumes nothing.
 use denote.Ref.{now}
-use mathlib.Core.Path.{_∙_, subst⁻¹}
+use mathlib.Core.Path.{refl}
 use borrow.Author.Needs.{needs}
-use mir.Syntax.{w64}
-use Rattle.integers.specs.Within.{_within_}
-use Rattle.integers.specs.Ratio.{Denominates}
-use Rattle.integers.proofs.Operand.{unchanged}
-use Rattle.sheet_steepness.proofs.Gaps.{x-lines, over-x}
+use native.Mathlib.Omega.{arith}
+use Rattle.sheet_layout.specs.Format.{xLinesOffset}
+use Rattle.sheet_steepness.proofs.Gaps.{lines-there, divisor-is}
 use Rattle.sheet_steepness.proofs.slopes.x_divisor.Statement.{statement}
 use Rattle.sheet_steepness.proofs.slopes.x_divisor.Tie as tie
 
 divisor-requires : tie.Need-divisor-requires
 divisor-requires c κs =
     let s = c .before .before in
-    x-lines (now (s .args .sheet)) (s .pre .0) (s .pre .1) (s .pre .2) _ (s .pre .3) (c .columns .ensures .0)
+    lines-there (now (s .args .sheet)) xLinesOffset _ _ (omega (arith, s .pre .0)) (s .pre .1) (s .pre .2) (s .pre .3) refl (c .columns .ensures .0)
 
 returns : tie.Need-returns
 returns c =
-    let d = c .divisor in
-    let e = over-x (now (c .before .before .before .args .sheet)) _ (c .before .columns .ensures .0) (d .ensures .0) in
-    (unchanged w64 (d .ok) ∙ e, subst⁻¹ Denominates (unchanged w64 (d .ok)) (d .ensures .1), subst⁻¹ (λ z. z within 8192) (unchanged w64 (d .ok)) (d .ensures .2))
+    divisor-is (now (c .before .before .before .args .sheet)) xLinesOffset _ _ refl (c .before .columns .ensures .0) (c .divisor .ensures) (c .divisor .ok)
 
 pub x-divisor-spec : {M : Type 1} → statement M
 x-divisor-spec = tie.close (tie.spec (λ c κs. search needs) divisor-requires returns)

@@ -6,7 +6,7 @@ use native.Mathlib.Nat.{lt-of-le-of-lt}
 use Rattle.sheet_layout.specs.Format.{columns, heightAt}
 use Rattle.sheet_slopes.specs.Slopes.{previous, next}
 use Rattle.sheet_slopes.proofs.Neighbours.{previous-≤, next-<}
-use Rattle.sheet_steepness.proofs.Rises.{handed-on, rise-is}
+use Rattle.sheet_steepness.proofs.Rises.{heights-on, rise-is}
 use Rattle.sheet_steepness.proofs.slopes.x_stiffened.Statement.{statement}
 use Rattle.sheet_steepness.proofs.slopes.x_stiffened.Tie as tie
 
@@ -36,6 +36,5 @@ x-stiffened-spec =
     height-requires
     (λ c κs. search needs)
     height-requires-2
-    (λ c κs. let d = c .before .before in
-    let both = handed-on (d .height .ensures .1) (c .height2 .ensures .1) in (d .before .before .before .before .pre .1, both .0, both .1))
+    (λ c κs. let d = c .before .before in heights-on (d .before .before .before .before .pre .1) (d .height .ensures .1) (c .height2 .ensures .1))
     returns)

@@ -3,8 +3,8 @@ use mathlib.Core.Path.{_∙_}
 use borrow.Author.Needs.{needs}
 use mir.Syntax.{w64}
 use Rattle.integers.proofs.Operand.{unchanged}
-use Rattle.sheet_slopes.specs.Slopes.{filledY}
-use Rattle.sheet_steepness.proofs.Quotients.{ratio, slope-is}
+use Rattle.sheet_slopes.specs.Slopes.{slopeAlong, filledY}
+use Rattle.sheet_steepness.proofs.Quotients.{ratio, quotient-is}
 use Rattle.sheet_steepness.proofs.slopes.y_slope.Statement.{statement}
 use Rattle.sheet_steepness.proofs.slopes.y_slope.Tie as tie
 
@@ -12,11 +12,8 @@ y-divisor-requires : tie.Need-y-divisor-requires
 y-divisor-requires c κs = let p = c .before .pre in let f = p .0 in (f .whole, f .risingY, f .fewRows, p .2)
 
 returns : tie.Need-returns
-unfolding filledY
-returns c =
-    let r = c .before .y-stiffened .ensures in
-    let g = c .before .before .y-divisor .ensures in
-    unchanged w64 (c .round .ok) ∙ c .round .ensures ∙ slope-is (r .1) (g .1, g .2) _ _ _ _ _ (r .0) (g .0)
+unfolding slopeAlong filledY
+returns c = unchanged w64 (c .round .ok) ∙ c .round .ensures ∙ quotient-is (c .before .y-stiffened .ensures) (c .before .before .y-divisor .ensures)
 
 pub y-slope-spec : {M : Type 1} → statement M
 y-slope-spec =
@@ -24,5 +21,5 @@ y-slope-spec =
     (tie.spec
     y-divisor-requires
     (λ c κs. search needs)
-    (λ c κs. let g = c .before .y-divisor .ensures in ratio (c .y-stiffened .ensures .1) (g .1, g .2))
+    (λ c κs. ratio (c .y-stiffened .ensures) (c .before .y-divisor .ensures))
     returns)
