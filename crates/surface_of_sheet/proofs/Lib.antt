@@ -1,4 +1,5 @@
 pub mod Along
+pub mod CellsAlong
 pub mod Cells
 pub mod Places
 pub mod Sets

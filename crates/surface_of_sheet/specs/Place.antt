@@ -37,19 +37,41 @@ cellAt s p = cellOf s (p .column) (p .row)
 abbrev pub pointAt : List ℕ → Place → Point
 pointAt s p = pixel (cellAt s p) (p .a) (p .b)
 
+-- ---- the cells of a pixel
+
+-- of the cells 0 to k along an axis, the highest that touches a position: the last that starts at or before it
+unfoldable pub highestAlong : (ℕ → ℕ) → ℕ → ℕ → ℕ
+highestAlong line zero position = zero
+highestAlong line (suc k) position = cond (leb (line (suc k)) position) (suc k) (highestAlong line k position)
+
+-- the lowest that does: the last that starts before it, or the first of all
+unfoldable pub lowestAlong : (ℕ → ℕ) → ℕ → ℕ → ℕ
+lowestAlong line zero position = zero
+lowestAlong line (suc k) position = cond (ltb (line (suc k)) position) (suc k) (lowestAlong line k position)
+
+-- both: on an inner line the cell before it and the one behind; elsewhere the same cell twice, on the outermost lines the one that is there
+pub record Cells : Type 0 where
+  pub lowest : ℕ
+  pub highest : ℕ
+
+abbrev pub cellsAlong : (ℕ → ℕ) → ℕ → ℕ → Cells
+cellsAlong line k position = record { lowest = lowestAlong line k position; highest = highestAlong line k position }
+
+-- a pixel's columns and rows
+abbrev pub columnsAt : List ℕ → ℕ → Cells
+columnsAt s x = cellsAlong (lineX s) (columns s - 2) x
+
+abbrev pub rowsAt : List ℕ → ℕ → Cells
+rowsAt s y = cellsAlong (lineY s) (rows s - 2) y
+
 -- ---- the place that a pixel is read at
 
--- of the cells 0 to k along an axis, the last that starts at or before a position: on an inner line the cell to the right or below, on the outermost the last
-unfoldable pub cellAlong : (ℕ → ℕ) → ℕ → ℕ → ℕ
-cellAlong line zero position = zero
-cellAlong line (suc k) position = cond (leb (line (suc k)) position) (suc k) (cellAlong line k position)
-
--- the column and the row of a pixel's cell
+-- the column and the row of the cell that a pixel is read from: on an inner line the cell to the right or below, on the outermost the last
 unfoldable pub columnAt : List ℕ → ℕ → ℕ
-columnAt s x = cellAlong (lineX s) (columns s - 2) x
+columnAt s x = columnsAt s x .highest
 
 unfoldable pub rowAt : List ℕ → ℕ → ℕ
-rowAt s y = cellAlong (lineY s) (rows s - 2) y
+rowAt s y = rowsAt s y .highest
 
 -- cell, offsets and piece; on a diagonal `pieceAt` takes the lowest number
 unfoldable pub place : List ℕ → ℕ → ℕ → Place

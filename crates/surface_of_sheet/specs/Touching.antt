@@ -1,4 +1,4 @@
--- The place that a pixel is read at, among all its places: level and tilt are the same from each, the bend is not. Assumes nothing.
+-- The cells of a pixel, and the place that it is read at, among all its places: level and tilt are the same from each, the bend is not. Assumes nothing.
 use Prim.Native.Nat.{ℕ, suc, _+_, _-_, _≤_, _<_}
 use mathlib.Core.Path.{_≡_}
 use mathlib.Core.Logic.{_↔_}
@@ -10,9 +10,22 @@ use Rattle.element_sibson.specs.Cubic.{_≋_}
 use Rattle.element_sibson.specs.Piece.{number, triangle}
 use Rattle.sheet_layout.specs.Format.{columns, rows, lineX, lineY}
 use Rattle.sheet_calls.specs.Refusals.{Accepted}
-use Rattle.sheet_calls.specs.WellFormed.{Inside}
-use Rattle.surface_of_sheet.specs.Place.{HasCell, Place, cellAt, pointAt, place, touches}
+use Rattle.sheet_calls.specs.WellFormed.{Rising, Inside}
+use Rattle.surface_of_sheet.specs.Place.{HasCell, cellsAlong, Place, cellAt, pointAt, place, touches}
 use Rattle.surface_of_sheet.specs.Surface.{jetAt, levelAt, tiltXAt, tiltYAt, bendXXAt, level, tiltX, tiltY, bendXX}
+
+-- along an axis, whose n lines rise, the lowest and the highest cell that touch a position
+pub record CellLaws : Type 0 where
+  -- a cell has the position between its lines, or on one, exactly when it lies from the lowest to the highest
+  pub between : (line : ℕ → ℕ) (n position i : ℕ) → Rising line n → line 0 ≤ position → position ≤ line (n - 1) → suc i < n →
+      ((line i ≤ position) × (position ≤ line (suc i)))
+      ↔ ((cellsAlong line (n - 2) position .lowest ≤ i) × (i ≤ cellsAlong line (n - 2) position .highest))
+  -- on an inner line they are the cell before it and the one behind; on the outermost the one that is there; elsewhere they are the same
+  pub inner : (line : ℕ → ℕ) (n k : ℕ) → Rising line n → suc (suc k) < n → cellsAlong line (n - 2) (line (suc k)) ≡ record { lowest = k; highest = suc k }
+  pub first : (line : ℕ → ℕ) (n : ℕ) → Rising line n → 2 ≤ n → cellsAlong line (n - 2) (line 0) ≡ record { lowest = 0; highest = 0 }
+  pub last : (line : ℕ → ℕ) (n : ℕ) → Rising line n → 2 ≤ n → cellsAlong line (n - 2) (line (n - 1)) ≡ record { lowest = n - 2; highest = n - 2 }
+  pub elsewhere : (line : ℕ → ℕ) (n position : ℕ) → Rising line n → 2 ≤ n → ((k : ℕ) → suc (suc k) < n → ¬ (position ≡ line (suc k))) →
+      cellsAlong line (n - 2) position .lowest ≡ cellsAlong line (n - 2) position .highest
 
 -- the pixel lies in a cell of the sheet, borders included, at these offsets, and there in the piece, borders included
 pub record Touches (s : List ℕ) (p : Place) (x y : ℕ) : Type 0 where

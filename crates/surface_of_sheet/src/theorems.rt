@@ -1,7 +1,7 @@
 // Theorems that belong to no function. Each is the contract of one that returns 0, so that the gate asks for its proof.
 ghost use mathlib.Core.Path.{_≡_};
 ghost use Rattle.surface_of_sheet.specs.Theorems.{TheSet, SharedEdges, ReadLaws, RunLaws, HalfUnits, AtNodes};
-ghost use Rattle.surface_of_sheet.specs.Touching.{PlaceLaws, Touching};
+ghost use Rattle.surface_of_sheet.specs.Touching.{CellLaws, PlaceLaws, Touching};
 ghost use Rattle.surface_of_sheet.specs.Examples.{Examples};
 
 pub fn the_set() -> u64
@@ -36,6 +36,12 @@ pub fn half_units() -> u64
 
 pub fn at_nodes() -> u64
     ensures { λ r. ⌜ (r ≡ 0) × AtNodes ⌝ }
+{
+    0
+}
+
+pub fn cell_laws() -> u64
+    ensures { λ r. ⌜ (r ≡ 0) × CellLaws ⌝ }
 {
     0
 }

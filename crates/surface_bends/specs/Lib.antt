@@ -1,0 +1,3 @@
+pub mod Bends
+pub mod BendLaws
+pub mod Examples
