@@ -28,7 +28,7 @@ module _ (line : ℕ → ℕ) (position : ℕ) where
   low-least k = rw (← low-is k) (along-least (λ i. suc (line i)) position k)
 
   -- no later cell starts before the position
-  low-last : (k j : ℕ) → j ≤ k → line j < position → j ≤ lowestAlong line k position
+  pub low-last : (k j : ℕ) → j ≤ k → line j < position → j ≤ lowestAlong line k position
   low-last k j l h = rw (← low-is k) (along-last (λ i. suc (line i)) position k j l h)
 
   -- it starts before the position, unless it is the first

@@ -21,7 +21,7 @@ use Rattle.surface_of_sheet.proofs.Cells.{numbers-within}
 use Rattle.surface_of_sheet.proofs.Places.{has-cell}
 use Rattle.surface_places.specs.Found.{holding}
 use Rattle.surface_places.specs.declared.Place.{Place}
-use Rattle.surface_places.proofs.Axes.{place-is, mesh, pixel-inside}
+use Rattle.surface_places.proofs.Axes.{place-is, mesh, pixel-inside, column-holds, row-holds}
 use Rattle.surface_pixels.specs.Located.{located}
 use Rattle.surface_pixels.specs.declared.LocatedCubic.{LocatedCubic}
 
@@ -44,7 +44,7 @@ module _ (s : List ℕ) (x y : ℕ) (accepted : Accepted s) (inside : Inside s x
   numbersOf g = cornerNumbers (cell (g .pixel .width) (g .pixel .height)) (nodesOf s (g .column) (g .row))
 
   pixel-in-cell : PixelInCell (holding s (place s x y) .pixel)
-  pixel-in-cell = subst (λ g. PixelInCell (g .pixel)) (place-is s x y) (pixel-inside s x y inside (mesh s accepted))
+  pixel-in-cell = let m = mesh s accepted in subst (λ g. PixelInCell (g .pixel)) (place-is s x y) (pixel-inside m (column-holds m inside) (row-holds m inside))
 
   all-within : AllWithin largest (numbersOf (holding s (place s x y)))
   unfolding place holding cellOf

@@ -19,6 +19,7 @@ use surface_answers::LevelReading;
 use surface_answers::TiltReading;
 use surface_places::find;
 use surface_places::outside;
+use surface_places::read_place;
 
 // The cubic that a pixel is read from, by its doubled coefficients, and the pixel in its cell.
 struct LocatedCubic {
@@ -91,7 +92,7 @@ fn locate(sheet: &[u8], x: u32, y: u32) -> LocatedCubic
     requires { ⌜ Accepted (now sheet) × Inside (now sheet) x y ⌝ }
     ensures { λ r. ⌜ r ≡ located (now (sheet .entry)) (place (now (sheet .entry)) x y) ⌝ }
 {
-    let place = find(sheet, x, y);
+    let place = read_place(sheet, find(sheet, x, y), x, y);
     let p = place.pixel;
     let piece = place.piece;
     let n = surface_cells::corner_numbers(sheet, place.column, place.row, p.width, p.height);

@@ -14,29 +14,23 @@ use Rattle.element_cell.specs.Cell.{pixelPoint, PixelInCell}
 use Rattle.element_cell.specs.Pieces.{named}
 use Rattle.element_cell.specs.declared.Pixel.{Pixel}
 use Rattle.surface_of_sheet.specs.Place.{cellOf, columnAt, rowAt, place}
-use Rattle.surface_of_sheet.proofs.Cells.{sound}
-use Rattle.surface_places.specs.declared.OnAxis.{OnAxis}
-use Rattle.surface_places.specs.Found.{Mesh, Between, offAxis, onAxis, holding}
-use Rattle.surface_places.proofs.Search.{size-side, offset-below}
+use Rattle.surface_of_sheet.proofs.Cells.{gap-side, sound}
+use Rattle.surface_places.specs.Found.{Mesh, Between, Holds, offAxis, found, pixelIn, holding}
+use Rattle.surface_places.proofs.Search.{highest-holds}
 
 -- a pixel lies outside the mesh where it is off one of the axes
 pub off-either : (s : List ℕ) (x y : ℕ) → offAxis (lineFrom s xLinesOffset) (columns s) x || offAxis (lineFrom s (yLinesOffset s)) (rows s) y ≡ outside s x y
 unfolding offAxis outside
 off-either s x y = sym (or-assoc (ltb x (lineX s 0) || ltb (lineX s (columns s - 1)) x) (ltb y (lineY s 0)) (ltb (lineY s (rows s - 1)) y))
 
--- where a pixel lies along each axis, and the pixel in its cell
-abbrev pub alongX : List ℕ → ℕ → OnAxis
-alongX s x = onAxis (lineFrom s xLinesOffset) (columns s - 2) x
+-- the place of a pixel, by its highest cells and the pixel in that cell
+abbrev pub pixelAt : List ℕ → ℕ → ℕ → Pixel
+pixelAt s x y = pixelIn s (found s x y .columns .highest) (found s x y .rows .highest) x y
 
-abbrev pub alongY : List ℕ → ℕ → OnAxis
-alongY s y = onAxis (lineFrom s (yLinesOffset s)) (rows s - 2) y
-
-abbrev pixelAt : List ℕ → ℕ → ℕ → Pixel
-pixelAt s x y = record { a = alongX s x .offset; b = alongY s y .offset; width = alongX s x .size; height = alongY s y .size }
-
--- the place of a pixel, by these
-pub place-is : (s : List ℕ) (x y : ℕ) → record { column = alongX s x .cell; row = alongY s y .cell; pixel = pixelAt s x y; piece = named (pieceAt (pixelPoint (pixelAt s x y))) } ≡ holding s (place s x y)
-unfolding onAxis columnAt rowAt cellOf place holding
+pub place-is : (s : List ℕ) (x y : ℕ) →
+    record { column = found s x y .columns .highest; row = found s x y .rows .highest; pixel = pixelAt s x y; piece = named (pieceAt (pixelPoint (pixelAt s x y))) }
+    ≡ holding s (place s x y)
+unfolding found pixelIn columnAt rowAt cellOf place holding
 place-is s x y = refl
 
 pub mesh : (s : List ℕ) → Accepted s → Mesh s
@@ -56,10 +50,22 @@ module _ (s : List ℕ) (x y : ℕ) (inside : Inside s x y) where
   pub y-between : Between (lineFrom s (yLinesOffset s)) (rows s) y
   y-between = record { first = inside .top; last = inside .bottom }
 
-  pub pixel-inside : Mesh s → PixelInCell (pixelAt s x y)
-  pixel-inside m = record {
-    width = size-side _ _ _ _ (m .across) x-between;
-    height = size-side _ _ _ _ (m .down) y-between;
-    across = offset-below _ _ _ _ (m .across) x-between;
-    down = offset-below _ _ _ _ (m .down) y-between;
-  }
+-- a pixel in a cell that touches it
+pub pixel-inside : {s : List ℕ} {i j x y : ℕ} → Mesh s → Holds (lineX s) (columns s) i x → Holds (lineY s) (rows s) j y → PixelInCell (pixelIn s i j x y)
+unfolding pixelIn
+pixel-inside m h k = record {
+  width = gap-side (m .across .rising) _ (h .has);
+  height = gap-side (m .down .rising) _ (k .has);
+  across = omega (arith, h .ends);
+  down = omega (arith, k .ends);
+}
+
+-- the highest cells touch the pixel
+module _ {s : List ℕ} {x y : ℕ} (m : Mesh s) (inside : Inside s x y) where
+  pub column-holds : Holds (lineX s) (columns s) (found s x y .columns .highest) x
+  unfolding found
+  column-holds = highest-holds s xLinesOffset (columns s) x (m .across) (x-between s x y inside)
+
+  pub row-holds : Holds (lineY s) (rows s) (found s x y .rows .highest) y
+  unfolding found
+  row-holds = highest-holds s (yLinesOffset s) (rows s) y (m .down) (y-between s x y inside)

@@ -1,16 +1,16 @@
--- The cell that a position between an axis's outer lines belongs to, and the search for it: it lies from `low` on and before `high` at the start, and
+-- The cells that touch a position between an axis's outer lines, and the search for the highest: it lies from `low` on and before `high` at the start, and
 -- stays there. Assumes nothing.
 use Prim.Native.Nat.{ℕ, suc, _+_, _-_, _/_, _≤_, _<_}
-use mathlib.Core.Path.{_≡_}
+use mathlib.Core.Path.{_≡_, sym, ap, _∙_}
 use mathlib.Core.List.{List}
 use native.Mathlib.Omega.{arith}
 use native.Mathlib.Decide.{decLt}
-use Rattle.element_cell.specs.Cell.{Side}
 use Rattle.sheet_layout.specs.Format.{lineFrom}
-use Rattle.surface_of_sheet.specs.Place.{cellAlong}
+use Rattle.surface_of_sheet.specs.Place.{lowestAlong, highestAlong, cellsAlong}
 use Rattle.surface_of_sheet.proofs.Along.{along-starts, along-last, rise, axis-cell, axis-ends}
-use Rattle.surface_of_sheet.proofs.Cells.{gap-side}
-use Rattle.surface_places.specs.Found.{Axis, Between, onAxis}
+use Rattle.surface_of_sheet.proofs.CellsAlong.{low-below, low-last, cell-laws}
+use Rattle.surface_places.specs.declared.Cells.{Cells}
+use Rattle.surface_places.specs.Found.{Axis, Between, Holds, cellsOf}
 
 -- the line in the middle, where one is left between low and high
 pub middle-between : (low high : ℕ) → low + 1 < high → (low < (low + high) / 2) × ((low + high) / 2 < high)
@@ -19,7 +19,7 @@ middle-between low high h = (omega arith, omega arith)
 module _ (s : List ℕ) (start lines position : ℕ) where
   -- the cell
   abbrev pub cellOn : ℕ
-  cellOn = cellAlong (lineFrom s start) (lines - 2) position
+  cellOn = highestAlong (lineFrom s start) (lines - 2) position
 
   -- the cell lies from low on and before high, which is a line of the axis
   pub record Searched (low high : ℕ) : Type 0 where
@@ -28,29 +28,37 @@ module _ (s : List ℕ) (start lines position : ℕ) where
     pub line : high < lines
 
   module _ (axis : Axis s start lines) (between : Between (lineFrom s start) lines position) where
-    -- both lines of the cell are lines of the axis
-    pub cell-below : suc cellOn < lines
-    cell-below = axis-cell (lineFrom s start) (axis .few) position
+    -- it touches the position
+    pub highest-holds : Holds (lineFrom s start) lines cellOn position
+    highest-holds = record {
+      has = axis-cell (lineFrom s start) (axis .few) position;
+      starts = along-starts (lineFrom s start) position (lines - 2) (between .first);
+      ends = axis-ends (lineFrom s start) (axis .few) position (between .last);
+    }
 
-    -- the position lies between them
-    pub cell-starts : lineFrom s start cellOn ≤ position
-    cell-starts = along-starts (lineFrom s start) position (lines - 2) (between .first)
+    -- on its first line the one before it does too, where there is one; else it is the only one
+    pub two-cells : 0 < cellOn → position ≤ lineFrom s start cellOn → record { lowest = cellOn - 1; highest = cellOn } ≡ cellsOf (cellsAlong (lineFrom s start) (lines - 2) position)
+    two-cells h l =
+        let back : suc (cellOn - 1) ≡ cellOn = omega arith in
+        let on : position ≡ lineFrom s start (suc (cellOn - 1)) = rw back (omega (arith, highest-holds .starts)) in
+        let both = cell-laws .inner (lineFrom s start) lines (cellOn - 1) (axis .rising) (omega (arith, highest-holds .has)) in
+        let lowest = sym (ap (λ q. lowestAlong (lineFrom s start) (lines - 2) q) on ∙ ap (λ c. c .lowest) both) in
+        λ t. record { lowest = lowest t; highest = cellOn }
 
-    cell-ends : position ≤ lineFrom s start (suc cellOn)
-    cell-ends = axis-ends (lineFrom s start) (axis .few) position (between .last)
-
-    -- the cell's size, and the offset in it
-    pub size-side : Side (onAxis (lineFrom s start) (lines - 2) position .size)
-    unfolding onAxis
-    size-side = gap-side (axis .rising) cellOn cell-below
-
-    pub offset-below : onAxis (lineFrom s start) (lines - 2) position .offset ≤ onAxis (lineFrom s start) (lines - 2) position .size
-    unfolding onAxis
-    offset-below = omega (arith, cell-ends)
+    pub one-cell : (0 < cellOn → lineFrom s start cellOn < position) → record { lowest = cellOn; highest = cellOn } ≡ cellsOf (cellsAlong (lineFrom s start) (lines - 2) position)
+    one-cell h =
+        let below = low-below (lineFrom s start) position (lines - 2) in
+        let least : 0 < cellOn → cellOn ≤ lowestAlong (lineFrom s start) (lines - 2) position =
+        λ p. low-last (lineFrom s start) position (lines - 2) cellOn (omega (arith, highest-holds .has)) (h p) in
+        let lowest : cellOn ≡ lowestAlong (lineFrom s start) (lines - 2) position = elim (decLt 0 cellOn) [
+          | yes p ↦ omega (arith, least p)
+          | no d ↦ omega arith
+        ] in
+        λ t. record { lowest = lowest t; highest = cellOn }
 
     -- the whole axis
     pub starts : Searched 0 (lines - 1)
-    starts = record { from = omega arith; below = omega (arith, cell-below); line = omega (arith, axis .few) }
+    starts = record { from = omega arith; below = omega (arith, highest-holds .has); line = omega (arith, axis .few) }
 
     -- a middle line at or before the position, or beyond it
     pub moves-low : (low middle high : ℕ) → Searched low high → middle < high → lineFrom s start middle ≤ position → Searched middle high
@@ -65,7 +73,7 @@ module _ (s : List ℕ) (start lines position : ℕ) where
       where
         by : Dec (cellOn < middle) → cellOn < middle
         by (yes k) = k
-        by (no k) = absurd (let far = rise (axis .rising) middle cellOn (omega arith) (omega (arith, cell-below)) in omega (arith, cell-starts))
+        by (no k) = absurd (let far = rise (axis .rising) middle cellOn (omega arith) (omega (arith, highest-holds .has)) in omega (arith, highest-holds .starts))
 
   -- where no line is left between them, low is the cell
   pub found : (low high : ℕ) → Searched low high → high ≤ low + 1 → low ≡ cellOn

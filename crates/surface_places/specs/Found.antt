@@ -1,5 +1,5 @@
--- How the code holds a place, and where a position lies along one axis. Assumes nothing.
-use Prim.Native.Nat.{ℕ, suc, _+_, _*_, _-_, _≤_}
+-- How the code holds the cells that touch a pixel, the pixel in each, and a place. Assumes nothing.
+use Prim.Native.Nat.{ℕ, suc, _+_, _*_, _-_, _≤_, _<_}
 use mathlib.Core.List.{List}
 use mathlib.Core.Bool.{Bool, _||_}
 use lib.Dec.{ltb}
@@ -8,9 +8,12 @@ use Rattle.element_cell.specs.Pieces.{named}
 use Rattle.sheet_layout.specs.Format.{columns, rows, xLinesOffset, yLinesOffset, lineFrom, lineX, lineY}
 use Rattle.sheet_calls.specs.WellFormed.{Rising}
 use Rattle.surface_of_sheet.specs.Place as surface
-use Rattle.surface_of_sheet.specs.Place.{cellAlong}
-use Rattle.surface_places.specs.declared.Place.{Place}
+use Rattle.surface_of_sheet.specs.Place.{columnsAt, rowsAt}
+use Rattle.element_cell.specs.declared.Pixel.{Pixel}
+use Rattle.surface_places.specs.declared.Cells.{Cells}
+use Rattle.surface_places.specs.declared.Found.{Found}
 use Rattle.surface_places.specs.declared.OnAxis.{OnAxis}
+use Rattle.surface_places.specs.declared.Place.{Place}
 
 -- an axis with 2 to 65 lines, which lie in the sheet and rise
 pub record Axis (s : List ℕ) (start lines : ℕ) : Type 0 where
@@ -33,9 +36,27 @@ pub record Between (line : ℕ → ℕ) (lines position : ℕ) : Type 0 where
 unfoldable pub offAxis : (ℕ → ℕ) → ℕ → ℕ → Bool
 offAxis line lines position = ltb position (line 0) || ltb (line (lines - 1)) position
 
--- along an axis, of its cells 0 to k: the cell, the offset from its first line, and its size, the distance of its lines
-unfoldable pub onAxis : (ℕ → ℕ) → ℕ → ℕ → OnAxis
-onAxis line k position = let i = cellAlong line k position in record { cell = i; offset = position - line i; size = line (suc i) - line i }
+-- cell i along an axis of n lines touches a position: it is one of the axis's, and has the position between its lines, or on one
+pub record Holds (line : ℕ → ℕ) (n i position : ℕ) : Type 0 where
+  pub has : suc i < n
+  pub starts : line i ≤ position
+  pub ends : position ≤ line (suc i)
+
+-- the lowest and the highest cell
+abbrev pub cellsOf : surface.Cells → Cells
+cellsOf c = record { lowest = c .lowest; highest = c .highest }
+
+-- those of a pixel along both axes
+unfoldable pub found : List ℕ → ℕ → ℕ → Found
+found s x y = record { columns = cellsOf (columnsAt s x); rows = cellsOf (rowsAt s y) }
+
+-- in a cell along an axis: the offset from its first line, and its size, the distance of its lines
+unfoldable pub inCell : (ℕ → ℕ) → ℕ → ℕ → OnAxis
+inCell line i position = record { offset = position - line i; size = line (suc i) - line i }
+
+-- a pixel in the cell in column i and row j, with the cell's width and height
+unfoldable pub pixelIn : List ℕ → ℕ → ℕ → ℕ → ℕ → Pixel
+pixelIn s i j x y = record { a = x - lineX s i; b = y - lineY s j; width = lineX s (suc i) - lineX s i; height = lineY s (suc j) - lineY s j }
 
 -- a place, with the width and height of its cell
 unfoldable pub holding : List ℕ → surface.Place → Place

@@ -15,6 +15,7 @@ use sheet_layout::header::columns;
 use sheet_layout::line_x;
 use surface_cells::corner_numbers;
 use surface_places::find;
+use surface_places::read_place;
 
 // The cells that a row of pixels lies in: their row, the pixels' offset from their top edge, their height.
 pub struct Strip {
@@ -29,7 +30,7 @@ pub fn run(sheet: &[u8], x: u32, y: u32, row: &mut [i32], count: usize)
     requires { ⌜ OnMesh (now sheet) x y count × (count ≤ length (now row)) ⌝ }
     ensures { λ _. ⌜ now (row .exit) ≡ begun (now (sheet .entry)) x y count (now (row .entry)) ⌝ }
 {
-    let place = find(sheet, x, y);
+    let place = read_place(sheet, find(sheet, x, y), x, y);
     let strip = Strip {
         row: place.row,
         offset: place.pixel.b,

@@ -24,17 +24,17 @@ abbrev μ-loop : tie.MeasureT-loop
 
 -- ---- where the run starts
 
-module _ (c : tie.After-find Inv-loop μ-loop) where
+module _ (c : tie.After-read-place Inv-loop μ-loop) where
   abbrev s : tie.Start Inv-loop μ-loop
-  s = c .before .before
+  s = c .before .before .before
 
-  starts : c .find .result .column ≡ columnAt (now (s .args .sheet)) (s .args .x)
+  starts : c .read-place .result .column ≡ columnAt (now (s .args .sheet)) (s .args .x)
   unfolding place holding
-  starts = ap (λ (g : Place). g .column) (c .find .ensures)
+  starts = ap (λ (g : Place). g .column) (c .read-place .ensures)
 
-  strip-is : record { row = c .find .result .row; offset = c .find .result .pixel .b; height = c .find .result .pixel .height } ≡ stripAt (now (s .args .sheet)) (s .args .y)
+  strip-is : record { row = c .read-place .result .row; offset = c .read-place .result .pixel .b; height = c .read-place .result .pixel .height } ≡ stripAt (now (s .args .sheet)) (s .args .y)
   unfolding place holding stripAt
-  strip-is = ap (λ (g : Place). record { row = g .row; offset = g .pixel .b; height = g .pixel .height }) (c .find .ensures)
+  strip-is = ap (λ (g : Place). record { row = g .row; offset = g .pixel .b; height = g .pixel .height }) (c .read-place .ensures)
 
 loop-holds : tie.Need-loop-holds Inv-loop μ-loop
 loop-holds c = λ mesh. rw (starts c) (begins _ _ _ _ mesh _)
@@ -61,7 +61,7 @@ module _ (c : tie.After-row Inv-loop μ-loop) where
   abbrev l : tie.In-loop Inv-loop μ-loop
   l = c .before .before .before
 
-  abbrev f : tie.After-find Inv-loop μ-loop
+  abbrev f : tie.After-read-place Inv-loop μ-loop
   f = l .before .before
 
   near : l .before .loop .column < 65
@@ -88,4 +88,4 @@ returns : tie.Need-returns Inv-loop μ-loop
 returns c = let b = c .before in let p = s (b .before) .pre in finishes _ _ _ _ _ _ (b .loop .inv (p .0)) (c .loop-test .left) (p .1)
 
 pub run-spec : {M : Type 1} → statement M
-run-spec = tie.close (tie.spec Inv-loop μ-loop (λ c κs. let m = c .before .pre .0 in (axes.mesh _ (m .accepted), m .first)) loop-holds fill-column-requires (λ c. let n = near c in search needs) loop-less loop-again kept returns)
+run-spec = tie.close (tie.spec Inv-loop μ-loop (λ c κs. let m = c .before .pre .0 in (axes.mesh _ (m .accepted), m .first)) (λ c κs. let m = c .before .before .pre .0 in (axes.mesh _ (m .accepted), m .first, c .find .ensures)) loop-holds fill-column-requires (λ c. let n = near c in search needs) loop-less loop-again kept returns)

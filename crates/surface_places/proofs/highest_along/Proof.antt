@@ -1,9 +1,9 @@
--- `surface_places::cell_along` meets its contract. Assumes nothing.
+-- `surface_places::highest_along` meets its contract. Assumes nothing.
 use Prim.Native.Nat.{_+_, _-_, _/_, _<_}
 use native.Mathlib.Omega.{arith}
 use Rattle.surface_places.proofs.Search.{middle-between, Searched, starts, moves-low, moves-high, found}
-use Rattle.surface_places.proofs.cell_along.Statement.{statement}
-use Rattle.surface_places.proofs.cell_along.Tie as tie
+use Rattle.surface_places.proofs.highest_along.Statement.{statement}
+use Rattle.surface_places.proofs.highest_along.Tie as tie
 
 abbrev Inv-loop : tie.InvT-loop
 Inv-loop sheet start lines position low₀ high₀ low high = Searched sheet start lines position low high
@@ -46,8 +46,8 @@ loop-again-2 c =
 returns : tie.Need-returns Inv-loop μ-loop
 returns c = found _ _ _ _ _ _ (c .before .loop .inv) (c .loop-test .left)
 
-pub cell-along-spec : {M : Type 1} → statement M
-cell-along-spec =
+pub highest-along-spec : {M : Type 1} → statement M
+highest-along-spec =
     tie.close
     (tie.spec
     Inv-loop
