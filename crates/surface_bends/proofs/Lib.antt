@@ -1,0 +1,3 @@
+pub mod InTurn
+pub mod Touched
+pub mod Chain
