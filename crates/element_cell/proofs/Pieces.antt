@@ -1,37 +1,55 @@
--- The piece that a pixel belongs to, by products of its offsets and its cell's sides. Assumes nothing.
-use mathlib.Core.Path.{_≡_, refl, sym, _∙_, subst⁻¹}
-use mathlib.Core.Bool.{Bool, true, false, cond}
+-- The pieces that hold a pixel, and the one that it is read from, by products of its offsets and its cell's sides. Assumes nothing.
+use mathlib.Core.Path.{_≡_, refl, sym, _∙_}
+use mathlib.Core.Logic.{_↔_}
+use mathlib.Core.Bool.{Bool, true, false, _&&_, cond}
 use mathlib.Core.List.{List, [], _∷_}
 use Prim.Native.Nat.{ℕ, _+_, _*_, _≤_, _<_}
-use native.Mathlib.Omega.{arith}
-use lib.Dec.{T}
+use native.Mathlib.Nat.{le-of-lt, le-trans, mul-le-mul}
+use borrow.Author.Tests.{le-leb, lt-leb}
+use lib.Dec.{T, leb, leb→le, le→leb}
 use lib.IntN.{ℤ, pos}
-use Rattle.integers.proofs.Polynomial.{Expr, var, #_, _⊕_, _⊗_}
-use Rattle.integers.proofs.Solve.{Claim, _≼_, Holds}
-use Rattle.integers.proofs.Deduce.{_·_, certified, certified-sound}
-use Rattle.integers.proofs.Order.{≤ℤ→≤, ≤→≤ℤ}
-use Rattle.element_sibson.specs.Fraction.{_≤ℚ_, complement}
-use Rattle.element_sibson.specs.Cubic.{Cell, Point, pixel}
-use Rattle.element_sibson.specs.Piece.{top, right, bottom, left, triangle, pieceAt}
+use lib.Signed.{leZ, leZ-yes}
+use Rattle.integers.proofs.Polynomial.{Expr, var, #_, _⊕_, _⊗_, eval}
+use Rattle.integers.proofs.Solve.{_≼_}
+use Rattle.integers.proofs.Deduce.{_·_, certified, certified-sound, both}
+use Rattle.element_sibson.specs.Cubic.{Cell, pixel}
+use Rattle.element_sibson.specs.Piece.{Piece, top, right, bottom, left, triangle, pieceAt}
+use Rattle.element_sibson.proofs.Finite.{and}
 use Rattle.element_sibson.proofs.Quote.{Quotient, wholeₑ, complementₑ, _÷ₑ_, _≤ₑ_}
-use Rattle.element_sibson.proofs.Covers.{inside, test}
-use Rattle.element_cell.specs.Cell.{side, cell, pixelCell, pixelPoint, PixelInCell}
+use Rattle.element_cell.specs.Cell.{pixelCell, pixelPoint, PixelInCell, cell}
 use Rattle.element_cell.proofs.Sides.{side-is}
 use Rattle.element_cell.specs.declared.Pixel.{Pixel}
 
--- ---- tests
+-- ---- the inequalities of the triangles, multiplied by the cell's area: of x = r W H, y = s W H and q = W H
 
-taken : {A : Type 0} (c : Bool) (x y : A) → T c → cond c x y ≡ x
-taken true x y t = refl
-taken false x y t = absurd t
+-- whether they hold, and that they do
+abbrev pub between : Piece → ℕ → ℕ → ℕ → Bool
+between top x y q = leb y x && leb (x + y) q
+between right x y q = leb y x && leb q (x + y)
+between bottom x y q = leb x y && leb q (x + y)
+between left x y q = leb x y && leb (x + y) q
 
-passed : {A : Type 0} (c : Bool) (x y : A) → (T c → ⊥) → cond c x y ≡ y
-passed true x y f = absurd (f tt)
-passed false x y f = refl
+abbrev pub Between : Piece → ℕ → ℕ → ℕ → Type 0
+Between top x y q = (y ≤ x) × (x + y ≤ q)
+Between right x y q = (y ≤ x) × (q ≤ x + y)
+Between bottom x y q = (x ≤ y) × (q ≤ x + y)
+Between left x y q = (x ≤ y) × (x + y ≤ q)
 
--- ---- the inequalities of the triangles, multiplied by the cell's area
+two : (k l m n : ℕ) → T (leb k l && leb m n) ↔ ((k ≤ l) × (m ≤ n))
+two k l m n = (λ t. let (a, b) = both (leb k l) (leb m n) t in (leb→le k l a, leb→le m n b), λ h. and (leb k l) (leb m n) (le→leb k l (h .0)) (le→leb m n (h .1)))
 
--- r and s, and the products x = r W H, y = s W H, q = W H
+tested : (k : Piece) (x y q : ℕ) → T (between k x y q) ↔ Between k x y q
+tested top x y q = two y x (x + y) q
+tested right x y q = two y x q (x + y)
+tested bottom x y q = two x y q (x + y)
+tested left x y q = two x y (x + y) q
+
+same-test : (a b : Bool) → (T a → T b) → (T b → T a) → a ≡ b
+same-test true true f g = refl
+same-test true false f g = absurd (f tt)
+same-test false true f g = absurd (g tt)
+same-test false false f g = refl
+
 abbrev rₑ : Quotient
 rₑ = wholeₑ (var 0) ÷ₑ var 2
 
@@ -47,86 +65,63 @@ yₑ = var 1 ⊗ var 2
 abbrev qₑ : Expr
 qₑ = var 2 ⊗ var 3
 
+-- ---- the point a and b pixels from the left and the top edge of any cell
+
 module _ (C : Cell) (a b : ℕ) where
-  abbrev x : ℕ
-  x = a * C .H .number
-
-  abbrev y : ℕ
-  y = b * C .W .number
-
-  abbrev q : ℕ
-  q = C .W .number * C .H .number
-
-  abbrev P : Point
-  P = pixel C a b
-
   abbrev ρ : List ℤ
   ρ = pos a ∷ pos b ∷ pos (C .W .number) ∷ pos (C .H .number) ∷ []
 
-  follows : (c d : Claim) → T (certified ((# 1 · c) ∷ []) d) → Holds c ρ → Holds d ρ
-  follows c d t = certified-sound ((# 1 · c) ∷ []) d t ρ
+  -- an inequality of fractions and one of products, each of which follows from the other
+  same : (u v : Quotient) (m n : Expr) → T (certified ((# 1 · (u ≤ₑ v)) ∷ []) (m ≼ n)) → T (certified ((# 1 · (m ≼ n)) ∷ []) (u ≤ₑ v))
+      → leZ (eval ρ (u .num ⊗ v .den)) (eval ρ (v .num ⊗ u .den)) ≡ leZ (eval ρ m) (eval ρ n)
+  same u v m n f g = same-test _ _
+      (λ t. certified-sound ((# 1 · (u ≤ₑ v)) ∷ []) (m ≼ n) f ρ (leZ-yes t) .le) (λ t. certified-sound ((# 1 · (m ≼ n)) ∷ []) (u ≤ₑ v) g ρ (leZ-yes t) .le)
 
-  s≤r : y ≤ x → P .s ≤ℚ P .r
-  s≤r h = record { crossed = follows (yₑ ≼ xₑ) (sₑ ≤ₑ rₑ) tt (≤→≤ℤ h) }
+  pub triangle-is : (k : Piece) → triangle k (pixel C a b) ≡ between k (a * C .H .number) (b * C .W .number) (C .W .number * C .H .number)
+  triangle-is top = λ t. same sₑ rₑ yₑ xₑ tt tt t && same sₑ (complementₑ rₑ) (xₑ ⊕ yₑ) qₑ tt tt t
+  triangle-is right = λ t. same sₑ rₑ yₑ xₑ tt tt t && same (complementₑ sₑ) rₑ qₑ (xₑ ⊕ yₑ) tt tt t
+  triangle-is bottom = λ t. same rₑ sₑ xₑ yₑ tt tt t && same (complementₑ rₑ) sₑ qₑ (xₑ ⊕ yₑ) tt tt t
+  triangle-is left = λ t. same rₑ sₑ xₑ yₑ tt tt t && same rₑ (complementₑ sₑ) (xₑ ⊕ yₑ) qₑ tt tt t
 
-  of-s≤r : P .s ≤ℚ P .r → y ≤ x
-  of-s≤r h = ≤ℤ→≤ (follows (sₑ ≤ₑ rₑ) (yₑ ≼ xₑ) tt (h .crossed))
+  pub in-triangle : (k : Piece) → T (triangle k (pixel C a b)) ↔ Between k (a * C .H .number) (b * C .W .number) (C .W .number * C .H .number)
+  in-triangle k = rw (triangle-is k) (tested k _ _ _)
 
-  r≤s : x ≤ y → P .r ≤ℚ P .s
-  r≤s h = record { crossed = follows (xₑ ≼ yₑ) (rₑ ≤ₑ sₑ) tt (≤→≤ℤ h) }
+-- ---- a pixel as the code holds it
 
-  s≤1-r : x + y ≤ q → P .s ≤ℚ complement (P .r)
-  s≤1-r h = record { crossed = follows (xₑ ⊕ yₑ ≼ qₑ) (sₑ ≤ₑ complementₑ rₑ) tt (≤→≤ℤ h) }
-
-  of-s≤1-r : P .s ≤ℚ complement (P .r) → x + y ≤ q
-  of-s≤1-r h = ≤ℤ→≤ (follows (sₑ ≤ₑ complementₑ rₑ) (xₑ ⊕ yₑ ≼ qₑ) tt (h .crossed))
-
-  1-s≤r : q ≤ x + y → complement (P .s) ≤ℚ P .r
-  1-s≤r h = record { crossed = follows (qₑ ≼ xₑ ⊕ yₑ) (complementₑ sₑ ≤ₑ rₑ) tt (≤→≤ℤ h) }
-
-  1-r≤s : q ≤ x + y → complement (P .r) ≤ℚ P .s
-  1-r≤s h = record { crossed = follows (qₑ ≼ xₑ ⊕ yₑ) (complementₑ rₑ ≤ₑ sₑ) tt (≤→≤ℤ h) }
-
-  of-1-r≤s : complement (P .r) ≤ℚ P .s → q ≤ x + y
-  of-1-r≤s h = ≤ℤ→≤ (follows (complementₑ rₑ ≤ₑ sₑ) (qₑ ≼ xₑ ⊕ yₑ) tt (h .crossed))
-
-  -- ---- the four pieces
-
-  in-top : y ≤ x → x + y ≤ q → pieceAt P ≡ top
-  in-top h k = taken (triangle top P) _ _ (test top P (s≤r h, s≤1-r k))
-
-  in-right : y ≤ x → q < x + y → pieceAt P ≡ right
-  in-right h k =
-      passed (triangle top P) _ _ (λ t. let l = of-s≤1-r (inside top P t .1) in omega arith)
-      ∙ taken (triangle right P) _ _ (test right P (s≤r h, 1-s≤r (omega arith)))
-
-  below : x < y → pieceAt P ≡ cond (triangle bottom P) bottom left
-  below h =
-      passed (triangle top P) _ _ (λ t. let l = of-s≤r (inside top P t .0) in omega arith)
-      ∙ passed (triangle right P) _ _ (λ t. let l = of-s≤r (inside right P t .0) in omega arith)
-
-  in-bottom : x < y → q ≤ x + y → pieceAt P ≡ bottom
-  in-bottom h k = below h ∙ taken (triangle bottom P) _ _ (test bottom P (r≤s (omega arith), 1-r≤s k))
-
-  in-left : x < y → x + y < q → pieceAt P ≡ left
-  in-left h k = below h ∙ passed (triangle bottom P) _ _ (λ t. let l = of-1-r≤s (inside bottom P t .1) in omega arith)
-
--- ---- of a pixel as the code holds it
+-- the lowest piece that holds it, by y ≤ x, x ≤ y, x + y ≤ q and q ≤ x + y
+abbrev lowest : Bool → Bool → Bool → Bool → Piece
+lowest above below before beyond = cond (above && before) top (cond (above && beyond) right (cond (below && beyond) bottom left))
 
 module _ (p : Pixel) (i : PixelInCell p) where
-  -- what holds of the sides as numbers holds of the cell's
-  sized : (Q : ℕ → ℕ → Type 0) → Q (p .width) (p .height) → Q (pixelCell p .W .number) (pixelCell p .H .number)
+  abbrev x : ℕ
+  x = p .a * p .height
+
+  abbrev y : ℕ
+  y = p .b * p .width
+
+  abbrev q : ℕ
+  q = p .width * p .height
+
+  -- none exceeds 64 · 64
+  pub products : (x ≤ 4096) × (y ≤ 4096) × (q ≤ 4096)
+  products =
+      (mul-le-mul (le-trans (i .across) (i .width .most)) (i .height .most), mul-le-mul (le-trans (i .down) (i .height .most)) (i .width .most), mul-le-mul (i .width .most) (i .height .most))
+
+  pub held : (k : Piece) → between k x y q ≡ triangle k (pixelPoint p)
   unfolding cell
-  sized Q h = subst⁻¹ (λ w. Q w (side (p .height) .number)) (side-is (i .width)) (subst⁻¹ (λ l. Q (p .width) l) (side-is (i .height)) h)
+  held k = let w = side-is (i .width) in let h = side-is (i .height) in sym (triangle-is (pixelCell p) (p .a) (p .b) k ∙ (λ t. between k (p .a * h t) (p .b * w t) (w t * h t)))
 
-  pub at-top : p .b * p .width ≤ p .a * p .height → p .a * p .height + p .b * p .width ≤ p .width * p .height → top ≡ pieceAt (pixelPoint p)
-  at-top h k = sym (in-top (pixelCell p) (p .a) (p .b) (sized (λ w l. p .b * w ≤ p .a * l) h) (sized (λ w l. p .a * l + p .b * w ≤ w * l) k))
+  read-from : lowest (leb y x) (leb x y) (leb (x + y) q) (leb q (x + y)) ≡ pieceAt (pixelPoint p)
+  read-from = λ t. cond (held top t) top (cond (held right t) right (cond (held bottom t) bottom left))
 
-  pub at-right : p .b * p .width ≤ p .a * p .height → p .width * p .height < p .a * p .height + p .b * p .width → right ≡ pieceAt (pixelPoint p)
-  at-right h k = sym (in-right (pixelCell p) (p .a) (p .b) (sized (λ w l. p .b * w ≤ p .a * l) h) (sized (λ w l. w * l < p .a * l + p .b * w) k))
+  pub at-top : y ≤ x → x + y ≤ q → top ≡ pieceAt (pixelPoint p)
+  at-top h k = sym (λ t. lowest (le-leb y x h t) (leb x y) (le-leb (x + y) q k t) (leb q (x + y))) ∙ read-from
 
-  pub at-bottom : p .a * p .height < p .b * p .width → p .width * p .height ≤ p .a * p .height + p .b * p .width → bottom ≡ pieceAt (pixelPoint p)
-  at-bottom h k = sym (in-bottom (pixelCell p) (p .a) (p .b) (sized (λ w l. p .a * l < p .b * w) h) (sized (λ w l. w * l ≤ p .a * l + p .b * w) k))
+  pub at-right : y ≤ x → q < x + y → right ≡ pieceAt (pixelPoint p)
+  at-right h k = sym (λ t. lowest (le-leb y x h t) (leb x y) (lt-leb (x + y) q k t) (le-leb q (x + y) (le-of-lt k) t)) ∙ read-from
 
-  pub at-left : p .a * p .height < p .b * p .width → p .a * p .height + p .b * p .width < p .width * p .height → left ≡ pieceAt (pixelPoint p)
-  at-left h k = sym (in-left (pixelCell p) (p .a) (p .b) (sized (λ w l. p .a * l < p .b * w) h) (sized (λ w l. p .a * l + p .b * w < w * l) k))
+  pub at-bottom : x < y → q ≤ x + y → bottom ≡ pieceAt (pixelPoint p)
+  at-bottom h k = sym (λ t. lowest (lt-leb y x h t) (le-leb x y (le-of-lt h) t) (leb (x + y) q) (le-leb q (x + y) k t)) ∙ read-from
+
+  pub at-left : x < y → x + y < q → left ≡ pieceAt (pixelPoint p)
+  at-left h k = sym (λ t. lowest (lt-leb y x h t) (le-leb x y (le-of-lt h) t) (leb (x + y) q) (lt-leb q (x + y) k t)) ∙ read-from

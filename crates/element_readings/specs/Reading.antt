@@ -1,4 +1,5 @@
 -- Readings of a cubic at a point: its height, slopes and second derivatives, each rounded by the rule. Assumes nothing.
+use mathlib.Core.List.{List, [], _∷_}
 use lib.IntN.{ℤ, pos, negℤ}
 use Rattle.integers.specs.Round.{round}
 use Rattle.element_sibson.specs.Fraction.{ℚ, _≤ℚ_, whole, half, _-ℚ_, _·ℚ_}
@@ -28,6 +29,10 @@ bendXYOf C f P = rounded (pos 64 ·ℚ bend C f P .xy)
 
 unfoldable pub bendYYOf : Cell → Cubic → Point → ℤ
 bendYYOf C f P = rounded (pos 64 ·ℚ bend C f P .yy)
+
+-- the three of them, in that order
+unfoldable pub bendsOf : Cell → Cubic → Point → List ℤ
+bendsOf C f P = bendXXOf C f P ∷ bendXYOf C f P ∷ bendYYOf C f P ∷ []
 
 infix 20 _withinℚ_
 -- −y ≤ x ≤ y

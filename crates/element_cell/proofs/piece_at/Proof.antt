@@ -1,16 +1,10 @@
 -- `element_cell::piece_at` meets its contract: no product exceeds 64 · 64. Assumes nothing.
-use Prim.Native.Nat.{_*_, _≤_}
 use mathlib.Core.Path.{ap}
-use native.Mathlib.Nat.{le-trans, mul-le-mul}
 use native.Mathlib.Omega.{arith}
 use Rattle.element_cell.specs.Pieces.{named}
-use Rattle.element_cell.proofs.Pieces.{at-top, at-right, at-bottom, at-left}
+use Rattle.element_cell.proofs.Pieces.{products, at-top, at-right, at-bottom, at-left}
 use Rattle.element_cell.proofs.piece_at.Statement.{statement}
 use Rattle.element_cell.proofs.piece_at.Tie as tie
-
-products : (s : tie.Start) → let p = s .args .p in (p .a * p .height ≤ 4096) × (p .b * p .width ≤ 4096) × (p .width * p .height ≤ 4096)
-products s = let i = s .pre in
-    (mul-le-mul (le-trans (i .across) (i .width .most)) (i .height .most), mul-le-mul (le-trans (i .down) (i .height .most)) (i .width .most), mul-le-mul (i .width .most) (i .height .most))
 
 returns : tie.Need-returns
 unfolding named
@@ -32,12 +26,12 @@ pub piece-at-spec : {M : Type 1} → statement M
 piece-at-spec =
     tie.close
     (tie.spec
-    (λ c. record { fits = omega (arith, products (c .before)) })
-    (λ c. record { fits = omega (arith, products (c .before .before)) })
-    (λ c. record { fits = omega (arith, products (c .before .before .before)) })
-    (λ c. record { fits = omega (arith, products (c .before .before .before .before)) })
+    (λ c. record { fits = omega (arith, products _ (c .before .pre)) })
+    (λ c. record { fits = omega (arith, products _ (c .before .before .pre)) })
+    (λ c. record { fits = omega (arith, products _ (c .before .before .before .pre)) })
+    (λ c. record { fits = omega (arith, products _ (c .before .before .before .before .pre)) })
     returns
     returns-2
-    (λ c. record { fits = omega (arith, products (c .before .before .before .before)) })
+    (λ c. record { fits = omega (arith, products _ (c .before .before .before .before .pre)) })
     returns-3
     returns-4)
