@@ -119,7 +119,29 @@ module _ {A : Type 0} where
 
 -- ---- a list for each element
 
-pub flatMap-append : {A B : Type 0} (f : A → List B) (l r : List A) → flatMap f (l ++ r) ≡ flatMap f l ++ flatMap f r
-unfolding flatMap
-flatMap-append f [] r = refl
-flatMap-append f (a ∷ l) r = rw (flatMap-append f l r) (sym (append-assoc (f a) (flatMap f l) (flatMap f r)))
+module _ {A B : Type 0} (f : A → List B) where
+  pub flatMap-append : (l r : List A) → flatMap f (l ++ r) ≡ flatMap f l ++ flatMap f r
+  unfolding flatMap
+  flatMap-append [] r = refl
+  flatMap-append (a ∷ l) r = rw (flatMap-append l r) (sym (append-assoc (f a) (flatMap f l) (flatMap f r)))
+
+  pub from-each : {b : B} (l : List A) → List·Memᴰ b (flatMap f l) → (a : A) × List·Memᴰ a l × List·Memᴰ b (f a)
+  unfolding flatMap
+  from-each [] m = absurd (List·Memᴰ·not-nil m)
+  from-each (a ∷ l) m = elim (List·Memᴰ·append-cases (f a) m) [
+    | inl h ↦ (a, List·Memᴰ·head refl, h)
+    | inr h ↦ let (c, k, n) = from-each l h in (c, List·Memᴰ·tail k, n)
+  ]
+
+  pub into-each : {a : A} {b : B} {l : List A} → List·Memᴰ a l → List·Memᴰ b (f a) → List·Memᴰ b (flatMap f l)
+  unfolding flatMap
+  into-each (List·Memᴰ·head {xs = l} e) m = Memᴰ·append-left (flatMap f l) (rw e at m)
+  into-each (List·Memᴰ·tail {x = c} h) m = Memᴰ·append-right (f c) (into-each h m)
+
+  -- in order, where the elements are, and each list is
+  pub ordered-each : (S : A → A → Type 0) (R : B → B → Type 0) (l : List A) → Ordered S l → ((a : A) → Ordered R (f a)) →
+      ((a c : A) (p q : B) → S a c → List·Memᴰ p (f a) → List·Memᴰ q (f c) → R p q) → Ordered R (flatMap f l)
+  unfolding flatMap
+  ordered-each S R [] o each across = tt
+  ordered-each S R (a ∷ l) o each across = ordered-append R (f a) (flatMap f l) (each a) (ordered-each S R l (o .1) each across)
+      (λ p q m n. let (c, h, k) = from-each l n in across a c p q (o .0 c h) m k)

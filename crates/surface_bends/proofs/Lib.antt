@@ -1,3 +1,11 @@
 pub mod InTurn
 pub mod Touched
+pub mod Listing
+pub mod Edges
+pub mod Counting
+pub mod Alone
+pub mod Numbers
 pub mod Chain
+pub mod Call
+pub mod Laws
+pub mod Examples
