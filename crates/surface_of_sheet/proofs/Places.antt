@@ -40,7 +40,7 @@ module _ (s : List ℕ) (p : Place) (x y : ℕ) where
   pub touched : T (touches s p x y) → Touches s p x y
   touched t = says .0 (holds (touches s p x y) .1 t)
 
-  touch : Touches s p x y → T (touches s p x y)
+  pub touch : Touches s p x y → T (touches s p x y)
   touch f = holds (touches s p x y) .0 (says .1 f)
 
 -- ---- a place is what its cell and piece tell
