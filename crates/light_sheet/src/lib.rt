@@ -8,7 +8,9 @@ ghost use Rattle.sheet_slopes.specs.Slopes.{slopeRefusal, withSlopes};
 ghost use Rattle.surface_answers.specs.Answers.{outcome};
 ghost use Rattle.surface_of_sheet.specs.Read.{read};
 ghost use Rattle.surface_of_sheet.specs.Run.{filled};
+ghost use Rattle.surface_bends.specs.Bends.{tally, counted, withBends};
 use surface_answers::Answer;
+use surface_bends::Listed;
 
 // Checks a sheet: 0 where it is accepted, else the number of the first of the conditions 1 to 6 that holds.
 pub fn check(sheet: &[u8]) -> u32
@@ -66,6 +68,17 @@ pub fn read(sheet: &[u8], x: u32, y: u32, kind: u32) -> Answer
     ensures kept { λ r. ⌜ now (sheet .exit) ≡ now (sheet .entry) ⌝ }
 {
     surface_pixels::read(sheet, x, y, kind)
+}
+
+// Lists the bend (xx, xy, yy) from each piece that touches the pixel (x, y), in 1/64 grain per pixel per pixel: cells row by row, in each the pieces by number.
+// The list stands in the first places of the lent buffer, and the places behind it keep their contents. Answers how many pieces there are; or, refused (1 to 6,
+// 7, 14), `Refused` with the number, and leaves the buffer as it was.
+pub fn bends(sheet: &[u8], x: u32, y: u32, list: &mut [i64]) -> Listed
+    ensures answer { λ r. ⌜ tally r ≡ counted (now (sheet .entry)) x y (length (now (list .entry))) ⌝ }
+    ensures list { λ r. ⌜ now (list .exit) ≡ withBends (now (sheet .entry)) x y (now (list .entry)) ⌝ }
+    ensures kept { λ r. ⌜ now (sheet .exit) ≡ now (sheet .entry) ⌝ }
+{
+    surface_bend_list::bends(sheet, x, y, list)
 }
 
 // Fills the lent row with the levels at the pixel (x, y) and at those to its right, one for each slot, in grains, and answers 0; or, refused (1 to 6, 7, 8),

@@ -1,9 +1,11 @@
--- What storing a reading's values in a lent array leaves there. The array has words of 64 bits, and a value is stored as its float's bits. Assumes nothing.
+-- What storing a reading's values in a lent array leaves there, and a count of pieces in a lent number. The array has words of 64 bits, and a value is stored
+-- as its float's bits. Assumes nothing.
 use Prim.Native.Nat.{ℕ}
-use mathlib.Core.Bool.{not}
+use mathlib.Core.Bool.{not, cond}
 use mathlib.Core.List.{List, [], _∷_, map}
-use lib.Dec.{T}
+use lib.Dec.{T, eqb}
 use lib.Ieee.{Float, binary64, isNan, toBits}
+use Rattle.surface_bends.specs.Bends.{Tally}
 
 -- the float is no NaN, so it has one pattern of bits
 abbrev pub IsNumber : Float → Type 0
@@ -18,3 +20,7 @@ unfoldable pub over : {A : Type 0} → List A → List A → List A
 over [] array = array
 over (w ∷ words) [] = []
 over (w ∷ words) (a ∷ array) = w ∷ over words array
+
+-- the count of pieces; or, of a refusal, the number that was held
+unfoldable pub countOver : Tally → ℕ → ℕ
+countOver t held = cond (eqb (t .number) 0) (t .pieces) held

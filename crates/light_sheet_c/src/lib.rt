@@ -10,7 +10,9 @@ ghost use Rattle.sheet_calls.specs.Calls.{lookedUp, withNode};
 ghost use Rattle.sheet_slopes.specs.Slopes.{slopeRefusal, withSlopes};
 ghost use Rattle.surface_of_sheet.specs.Read.{read};
 ghost use Rattle.surface_of_sheet.specs.Run.{filled};
-ghost use Rattle.light_sheet_c.specs.Values.{bits, over};
+ghost use Rattle.surface_bends.specs.Bends.{counted, withBends};
+ghost use Rattle.light_sheet_c.specs.Values.{bits, over, countOver};
+use surface_bends::Listed;
 
 // Checks a sheet: 0 where it is accepted, else the number of the first of the conditions 1 to 6 that holds.
 #[no_mangle]
@@ -80,6 +82,31 @@ pub extern "C" fn lvs_read(sheet: &[u8], x: u32, y: u32, kind: u32, values: &mut
     ensures kept { λ r. ⌜ now (sheet .exit) ≡ now (sheet .entry) ⌝ }
 {
     slots::store(light_sheet::read(sheet, x, y, kind), values)
+}
+
+// Lists the bend (xx, xy, yy) from each piece that touches the pixel (x, y) in the first places of `bends`, writes how many pieces there are to `pieces`, and
+// answers 0. The places behind the list keep their contents. Refused (1 to 6, 7, 14), it answers the number, and both keep theirs.
+#[no_mangle]
+pub extern "C" fn lvs_bends(
+    sheet: &[u8],
+    x: u32,
+    y: u32,
+    bends: &mut [i64],
+    pieces: &mut u32,
+) -> u32
+    ensures answer { λ r. ⌜ r ≡ counted (now (sheet .entry)) x y (length (now (bends .entry))) .number ⌝ }
+    ensures bends { λ r. ⌜ now (bends .exit) ≡ withBends (now (sheet .entry)) x y (now (bends .entry)) ⌝ }
+    ensures pieces { λ r. ⌜ now (pieces .exit) ≡ countOver (counted (now (sheet .entry)) x y (length (now (bends .entry)))) (now (pieces .entry)) ⌝ }
+    ensures kept { λ r. ⌜ now (sheet .exit) ≡ now (sheet .entry) ⌝ }
+{
+    let listed = light_sheet::bends(sheet, x, y, bends);
+    match listed {
+        Listed::Pieces(count) => {
+            *pieces = count;
+            0
+        }
+        Listed::Refused(number) => number,
+    }
 }
 
 // Fills the lent row with the levels at the pixel (x, y) and at those to its right, one for each slot, in grains, and answers 0; or, refused (1 to 6, 7, 8),
