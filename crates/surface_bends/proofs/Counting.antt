@@ -40,7 +40,8 @@ module _ (s : List ℕ) (accepted : Accepted s) (x y : ℕ) (inside : Inside s x
     where
       row : (j : ℕ) → length (inTurn (columns s - 1) (touchingIn s x y j)) ≤ c * across
       row j = most-in-turn c (columnsAt s x .lowest) (touchingIn s x y j) (each j) (none-left s accepted x y inside j)
-          (columnsAt s x .highest) (columns s - 1) (low-below (lineX s) x (columns s - 2)) (omega (arith, columns-there s accepted x y inside)) (none-right s accepted x y inside j)
+          (columnsAt s x .highest) (columns s - 1) (low-below (lineX s) x (columns s - 2)) (omega (arith, columns-there s accepted x y inside))
+          (none-right s accepted x y inside j)
 
   abbrev OnInner : Type 0
   OnInner = (columnsAt s x .lowest < columnsAt s x .highest) ⊎ (rowsAt s y .lowest < rowsAt s y .highest)

@@ -2,9 +2,8 @@
 use Prim.Native.Nat.{ℕ, suc, _-_, _≤_, _<_}
 use mathlib.Core.Path.{_≡_, refl, _∙_}
 use mathlib.Core.List.{List, [], flatMap}
-use mathlib.Core.Bool.{Bool, true, false, cond}
 use native.Mathlib.Omega.{arith}
-use lib.Dec.{T}
+use Rattle.integers.proofs.Order.{cond-ind}
 use Rattle.element_sibson.specs.Piece.{Piece, top, right, bottom, left}
 use Rattle.sheet_layout.specs.Format.{columns, rows, lineX, lineY}
 use Rattle.sheet_calls.specs.Refusals.{Accepted}
@@ -18,10 +17,6 @@ use Rattle.surface_of_sheet.proofs.Places.{touched}
 use Rattle.surface_bends.specs.Bends.{inTurn, ifTouching, touchingIn, touching}
 use Rattle.surface_bends.proofs.InTurn.{none-in-turn, no-more-in-turn, same-in-turn}
 
-passed : {A : Type 0} (c : Bool) (x y : A) → (T c → ⊥) → cond c x y ≡ y
-passed true x y f = absurd (f tt)
-passed false x y f = refl
-
 module _ (s : List ℕ) (x y j i : ℕ) where
   -- a cell of which no piece touches the pixel
   pub none-in : ((k : Piece) → ¬ Touches s (seen s i j k x y) x y) → touchingIn s x y j i ≡ []
@@ -29,7 +24,7 @@ module _ (s : List ℕ) (x y j i : ℕ) where
   none-in untouched = rw (none top, none right, none bottom, none left) refl
     where
       none : (k : Piece) → ifTouching s x y (seen s i j k x y) ≡ []
-      none k = passed (touches s (seen s i j k x y) x y) _ _ (λ t. untouched k (touched s (seen s i j k x y) x y t))
+      none k = cond-ind (touches s (seen s i j k x y) x y) _ _ (λ l. l ≡ []) (λ t. absurd (untouched k (touched s (seen s i j k x y) x y t))) (λ _. refl)
 
 module _ (s : List ℕ) (accepted : Accepted s) (x y : ℕ) (inside : Inside s x y) where
   -- the cell of a piece that touches the pixel lies between the lowest and the highest
