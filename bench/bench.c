@@ -65,7 +65,7 @@ static void print_conditions(void) {
     printf("- Buffers: cleared before every timing, outside the timed part, with a number that no level has. So all their pages are there, and the caches are "
            "warm: they hold as much of a buffer as fits.\n");
     printf("- The module checks the whole sheet in every call, and is called once for each row of pixels: its figures include that. The baseline checks "
-           "nothing.\n");
+           "nothing, but for bends, where it makes the same checks.\n");
     printf("- After every timing all levels are compared with those of `pixels`. One of `spans` or of the module that differs ends the run, as does one of "
            "`double` that is more than a grain off.\n");
     fflush(stdout);
