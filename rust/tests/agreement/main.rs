@@ -21,6 +21,7 @@ mod lent;
 mod meshes;
 mod options;
 mod patterns;
+mod pixels;
 mod random;
 mod requests;
 mod round;
