@@ -2,7 +2,7 @@
 //!
 //! They are chosen around the ends of a mesh: the sheet's own, or the one it had before damage.
 
-use crate::bench::{Bench, FAR_RUN, LONGEST_RUN};
+use crate::bench::{Bench, FAR, LONGEST_RUN};
 use crate::call::Call;
 use crate::pixels;
 use crate::sheet::Sheet;
@@ -54,7 +54,7 @@ fn counts(mesh: &Sheet, x: u32) -> Vec<usize> {
 fn far_counts(mesh: &Sheet) -> Vec<usize> {
     let wrapped = 1 << 32;
     let wraps_to_last = wrapped + (mesh.last_x() - mesh.x_lines[0]) as usize + 1;
-    vec![4_097, 4_098, 5_000, 65_536, LONGEST_RUN, wrapped, wrapped + 1, wraps_to_last, FAR_RUN]
+    vec![4_097, 4_098, 5_000, 65_536, LONGEST_RUN, wrapped, wrapped + 1, wraps_to_last, FAR]
 }
 
 /// New numbers on both sides of what is allowed, in each place, and some that 16 bits would allow.

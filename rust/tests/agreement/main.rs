@@ -8,8 +8,10 @@
 mod bare;
 mod battery;
 mod bench;
+mod bends;
 mod boundaries;
 mod call;
+mod creases;
 mod damage;
 mod draft;
 mod element;
