@@ -160,15 +160,14 @@ fn creased_examples() {
 }
 
 /// At every pixel of a small sheet the bend reading is the entry for the right or lower cell and its
-/// lowest piece, and as many pieces touch as the pixel's place says.
+/// lowest piece, and the cells that touch are twice as many for each inner line that it lies on.
 fn reads_beside_creases(sheet: &Sheet) {
     for (x, y) in pixels::every_up_to(sheet, 2_000).unwrap_or_default() {
         let cells = bends::from_each_piece(sheet, x, y);
         assert!(cells[cells.len() - 1][0].bend == sheet.exact(x, y).bend, "the entry that is read");
         let inner = |lines: &[u32], at: u32| lines[1..lines.len() - 1].contains(&at);
-        let along = [inner(&sheet.x_lines, x), inner(&sheet.y_lines, y)];
-        let expected = along.iter().fold(1, |cells, &inner| cells * (1 + usize::from(inner)));
-        assert_eq!(cells.len(), expected, "the cells that touch");
+        let on_lines = [inner(&sheet.x_lines, x), inner(&sheet.y_lines, y)].map(usize::from);
+        assert_eq!(cells.len(), (1 + on_lines[0]) * (1 + on_lines[1]), "the cells that touch");
     }
 }
 
