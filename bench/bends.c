@@ -106,7 +106,7 @@ void prepare_bends(void) {
 
 /* Seconds per call, over a batch that takes about a millisecond at most. */
 static double time_batch(const Kind *kind, const Sheet *sheet, const Pixel pixels[PLACES]) {
-    size_t count = 1 + 2000000 / (sheet->len + 1000);
+    size_t count = 4000000 / (sheet->len + 1000);
     void (*volatile give)(const Sheet *sheet, Pixel at, List *list) = kind->give; /* volatile, so that the compiler inlines none of the calls */
     int64_t sum = 0;
     double from = now();
