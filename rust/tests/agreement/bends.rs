@@ -1,10 +1,16 @@
 //! The bend from each piece that touches a pixel, by the words of 02, #102.
 
 use crate::element::Exact;
+use crate::fraction::Fraction;
 use crate::sheet::Sheet;
 
 /// "At most eight pieces touch a pixel", "three numbers each".
 pub const LEAST_PLACES: usize = 24;
+
+/// The list of a pixel inside the mesh, before its numbers are rounded.
+pub fn exact(sheet: &Sheet, x: u32, y: u32) -> Vec<[Fraction; 3]> {
+    from_each_piece(sheet, x, y).iter().flatten().map(|exact| exact.bend).collect()
+}
 
 /// What is read at a pixel inside the mesh from each piece that touches it: "by cells row by row,
 /// then pieces by number", so a list for each cell.

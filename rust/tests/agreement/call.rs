@@ -192,9 +192,7 @@ fn give_bends(sheet: &Sheet, x: u32, y: u32, places: usize) -> Result<Outcome, u
     if places < LEAST_PLACES {
         return Err(14);
     }
-    let cells = bends::from_each_piece(sheet, x, y);
-    let exact: Vec<Fraction> = cells.iter().flatten().flat_map(|exact| exact.bend).collect();
-    Ok(Outcome::rounds(&exact, Written::Bends))
+    Ok(Outcome::rounds(bends::exact(sheet, x, y).as_flattened(), Written::Bends))
 }
 
 fn fill_run(sheet: &Sheet, x: u32, y: u32, count: usize) -> Result<Outcome, u32> {

@@ -136,8 +136,7 @@ fn filled_example() {
 
 /// The bends from each piece that touches a pixel, rounded.
 fn bends_at(sheet: &Sheet, x: u32, y: u32) -> Vec<[i64; 3]> {
-    let cells = bends::from_each_piece(sheet, x, y);
-    cells.iter().flatten().map(|exact| exact.bend.map(Fraction::rounded)).collect()
+    bends::exact(sheet, x, y).iter().map(|bend| bend.map(Fraction::rounded)).collect()
 }
 
 /// The lists of bends that the format's description works out: both sides of a diagonal, the middle

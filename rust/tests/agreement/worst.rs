@@ -37,13 +37,10 @@ pub fn creased_sheets() -> Vec<(Draft, Pixel)> {
         let flat = Draft::flat(&[0, width], &[0, height]);
         let (right, bottom) = (u32::from(width), u32::from(height));
         let middle = (right / 2, bottom / 2);
-        for pixel in [(0, 0), (right, 0), (0, bottom), (right, bottom), middle] {
-            let bends = |sheet: &Sheet| -> Vec<Fraction> {
-                let cells = bends::from_each_piece(sheet, pixel.0, pixel.1);
-                cells.iter().flatten().flat_map(|exact| exact.bend).collect()
-            };
-            for k in 0..bends(&flat.sheet()).len() {
-                drafts.extend(ends(&flat, |sheet| bends(sheet)[k]).map(|draft| (draft, pixel)));
+        for (x, y) in [(0, 0), (right, 0), (0, bottom), (right, bottom), middle] {
+            for k in 0..3 * bends::exact(&flat.sheet(), x, y).len() {
+                let ends = ends(&flat, |sheet| bends::exact(sheet, x, y).as_flattened()[k]);
+                drafts.extend(ends.map(|draft| (draft, (x, y))));
             }
         }
     }
