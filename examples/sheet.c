@@ -1,5 +1,5 @@
-/* What a server does with a sheet, by each of the seven calls: checks it, reads at a pixel, fills the row from there on, finds a node, sets it, reads it back,
- * fills all slopes from the heights and reads once more.
+/* What a server does with a sheet, by each of the eight calls: checks it, reads at a pixel, lists the bends from each piece there, fills the row from there on,
+ * finds a node, sets it, reads it back, fills all slopes from the heights and reads once more.
  * Usage: sheet FILE [X Y]; without a pixel, at the mesh's first. */
 #include <inttypes.h>
 #include <stdio.h>
@@ -9,7 +9,7 @@
 
 static const char *const meaning[] = {
     "done", "mark", "version", "counts", "length", "lines", "nodes", "outside the mesh", "empty run", "reading kind", "no such node", "new numbers",
-    "stiffness", "too steep",
+    "stiffness", "too steep", "few places",
 };
 
 /* Ends the program where a call is refused. */
@@ -33,6 +33,17 @@ static void print_readings(const uint8_t *sheet, size_t len, uint32_t x, uint32_
     printf("tilt: %.17g %.17g steps per pixel\n", v[0], v[1]);
     expect("bend", lvs_read(sheet, len, x, y, LVS_BEND, v));
     printf("bend: %.17g %.17g %.17g steps per pixel per pixel\n", v[0], v[1], v[2]);
+}
+
+/* The bend from each piece that touches a pixel, as whole numbers: on a line or a diagonal there are several, and they may differ. */
+static void print_bends(const uint8_t *sheet, size_t len, uint32_t x, uint32_t y) {
+    int64_t bends[LVS_BEND_PLACES];
+    uint32_t pieces;
+    expect("bends", lvs_bends(sheet, len, x, y, bends, LVS_BEND_PLACES, &pieces));
+    printf("bends by piece, in 1/64 grain per pixel per pixel:");
+    for (uint32_t k = 0; k < pieces; k++)
+        printf("%s %" PRId64 " %" PRId64 " %" PRId64, k > 0 ? "," : "", bends[3 * k], bends[3 * k + 1], bends[3 * k + 2]);
+    printf("\n");
 }
 
 /* The levels from a pixel to the right edge of the mesh; the sheet is accepted, the pixel of the mesh. */
@@ -76,6 +87,7 @@ int main(int argc, char **argv) {
     uint32_t first_x = word(sheet + 8), first_y = word(sheet + 8 + 2 * sheet[5]);
     uint32_t x = argc == 4 ? (uint32_t)strtoul(argv[2], NULL, 10) : first_x, y = argc == 4 ? (uint32_t)strtoul(argv[3], NULL, 10) : first_y;
     print_readings(sheet, len, x, y);
+    print_bends(sheet, len, x, y);
     print_row(sheet, len, x, y);
     brighten_first_node(sheet, len);
     print_readings(sheet, len, first_x, first_y);

@@ -2,7 +2,7 @@
  * docs/FORMAT.md.
  *
  * Link with liblight_sheet_c.a, for x86-64 Linux: `rt staticlib light_sheet_c` proves the module and writes the archive to target/staticlib. The archive has
- * these seven calls and needs nothing else but memcpy and memset of the C library.
+ * these eight calls and needs nothing else but memcpy and memset of the C library.
  *
  * Of every call:
  * - Nothing is kept from one call to the next, nothing is allocated, no system call is made, errno is not touched. A call always returns. lvs_fill_run takes
@@ -13,8 +13,9 @@
  * - Any number of threads may call at once, also on one sheet, as long as no thread sets a node or fills slopes in it meanwhile.
  *
  * The caller's duty, which no call can check:
- * - sheet points to len bytes, levels to count numbers, values to three; with a length of 0 the pointer is never followed and may be null.
- * - levels and values do not overlap the sheet, and no other thread writes to what is lent while a call runs.
+ * - sheet points to len bytes, levels to count numbers, values to three, bends to places numbers, pieces to one; with a length of 0 the pointer is never
+ *   followed and may be null.
+ * - levels, values, bends and pieces overlap neither the sheet nor each other, and no other thread writes to what is lent while a call runs.
  */
 #ifndef LIGHT_SHEET_H
 #define LIGHT_SHEET_H
@@ -41,7 +42,8 @@ enum lvs_refusal {
     LVS_NO_NODE = 10,     /* no such column or row */
     LVS_NEW_NUMBERS = 11, /* a new height or slope outside -4095 to 4095 */
     LVS_STIFFNESS = 12,   /* a stiffness above 64 */
-    LVS_TOO_STEEP = 13    /* a filled slope outside -4095 to 4095 */
+    LVS_TOO_STEEP = 13,   /* a filled slope outside -4095 to 4095 */
+    LVS_FEW_PLACES = 14   /* fewer than 24 places for bends */
 };
 
 /* What a reading gives: the height of the surface, its slopes, its second derivatives. */
@@ -51,10 +53,11 @@ enum lvs_kind {
     LVS_BEND = 2   /* three, xx, xy and yy, in steps per pixel per pixel */
 };
 
-/* The largest sheet, in bytes; the bytes of a node; the pixels of the longest row. */
+/* The largest sheet, in bytes; the bytes of a node; the pixels of the longest row; the places for bends: eight pieces, three numbers each. */
 #define LVS_MAX_SHEET 25618
 #define LVS_NODE_SIZE 6
 #define LVS_MAX_RUN 4097
+#define LVS_BEND_PLACES 24
 
 /* The stack that a call takes at most, in bytes: lvs_fill_run, which has a row of its own; any other call. Where the C library is bound lazily, the dynamic
  * linker takes a few KB more when memset is first called; with -z now, or linked statically, nothing comes on top. */
@@ -90,6 +93,16 @@ uint32_t lvs_fill_slopes(uint8_t *sheet, size_t len, uint32_t stiffness);
  * 1/64 grain (bend), rounded to the nearest, a tie up, and divided by 64 or 4096, which a double holds exactly.
  * Returns 0, and has written the first one, two or three places of values and kept every bit of the others; or 1 to 7 or 9, and has written nothing. */
 uint32_t lvs_read(const uint8_t *sheet, size_t len, uint32_t x, uint32_t y, uint32_t kind, double values[3]);
+
+/* Gives the bend from each piece that touches a pixel of the mesh, since bends jump where pieces meet. The diagonals cut a cell into four pieces: 0 top,
+ * 1 right, 2 bottom, 3 left. A piece touches the pixel where its triangle holds it, edges and corners included. One, two, four or eight pieces do: eight at
+ * a node inside the mesh.
+ * The list runs by cells, row by row, and in a cell by pieces in order of number. Each piece has three numbers, the bend xx, xy and yy in 1/64 grain per pixel
+ * per pixel, rounded as lvs_read rounds it. The bend that lvs_read gives is that of the last cell and its first piece in the list, divided by 4096. Level and
+ * tilt are the same from every piece. places is at least LVS_BEND_PLACES, also where fewer are written.
+ * Returns 0, and has written the count of pieces to *pieces and three places of bends for each of them, from the first place on, and kept every bit of the
+ * others; or 1 to 7 or 14, and has written nothing. */
+uint32_t lvs_bends(const uint8_t *sheet, size_t len, uint32_t x, uint32_t y, int64_t *bends, size_t places, uint32_t *pieces);
 
 /* Fills a run of levels along a row of pixels: place k of levels gets the level at the pixel (x + k, y), in grains, as lvs_read rounds it.
  * Returns 0, and has written all count places; or 1 to 8, and has written nothing. */

@@ -20,16 +20,18 @@ static_assert(LVS_NO_NODE == 10, "no such node");
 static_assert(LVS_NEW_NUMBERS == 11, "new numbers");
 static_assert(LVS_STIFFNESS == 12, "stiffness");
 static_assert(LVS_TOO_STEEP == 13, "a filled slope");
+static_assert(LVS_FEW_PLACES == 14, "places for bends");
 
 /* reading kinds */
 static_assert(LVS_LEVEL == 0, "the height");
 static_assert(LVS_TILT == 1, "the slopes");
 static_assert(LVS_BEND == 2, "the second derivatives");
 
-/* limits: 65 lines each way; three numbers of 16 bits; pixels 0 to 4,096 */
+/* limits: 65 lines each way; three numbers of 16 bits; pixels 0 to 4,096; two pieces of each of four cells */
 static_assert(LVS_MAX_SHEET == 25618, "8 + 2 * 65 + 2 * 65 + 6 * 65 * 65");
 static_assert(LVS_NODE_SIZE == 6, "bytes");
 static_assert(LVS_MAX_RUN == 4097, "pixels");
+static_assert(LVS_BEND_PLACES == 24, "3 * 2 * 4");
 
 /* stack, in bytes: 17 KB and 1 KB */
 static_assert(LVS_RUN_STACK == 17408, "a row of 4,097 numbers of 32 bits, and 1 KB");
@@ -45,6 +47,7 @@ unsigned long lvs_node_offset(const unsigned char *, unsigned long, unsigned int
 unsigned int lvs_set_node(unsigned char *, unsigned long, unsigned int, unsigned int, int, int, int);
 unsigned int lvs_fill_slopes(unsigned char *, unsigned long, unsigned int);
 unsigned int lvs_read(const unsigned char *, unsigned long, unsigned int, unsigned int, unsigned int, double[3]);
+unsigned int lvs_bends(const unsigned char *, unsigned long, unsigned int, unsigned int, long *, unsigned long, unsigned int *);
 unsigned int lvs_fill_run(const unsigned char *, unsigned long, unsigned int, unsigned int, int *, unsigned long);
 #ifdef __cplusplus
 }

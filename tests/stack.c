@@ -61,8 +61,10 @@ struct call {
     uint32_t x, y, kind, stiffness;
     int32_t height;
     int32_t *levels;
-    size_t count;
+    size_t count, places;
     double values[3];
+    int64_t bends[LVS_BEND_PLACES];
+    uint32_t pieces;
     size_t given;
 };
 
@@ -96,6 +98,11 @@ static void make_read(void *of) {
     c->given = lvs_read(c->sheet, c->len, c->x, c->y, c->kind, c->values);
 }
 
+static void make_bends(void *of) {
+    struct call *c = of;
+    c->given = lvs_bends(c->sheet, c->len, c->x, c->y, c->bends, c->places, &c->pieces);
+}
+
 static void make_fill_run(void *of) {
     struct call *c = of;
     c->given = lvs_fill_run(c->sheet, c->len, c->x, c->y, c->levels, c->count);
@@ -119,6 +126,7 @@ static void refused(uint8_t *sheet, size_t len, enum lvs_refusal number) {
     EXPECT(set_node, LVS_STACK, number, SHEET);
     EXPECT(fill_slopes, LVS_STACK, number, SHEET);
     EXPECT(read, LVS_STACK, number, SHEET);
+    EXPECT(bends, LVS_STACK, number, SHEET, .places = LVS_BEND_PLACES);
     EXPECT(fill_run, LVS_RUN_STACK, number, SHEET, .levels = levels, .count = 4);
 }
 
@@ -129,6 +137,16 @@ static void filled(uint8_t *sheet, size_t len, uint32_t gap) {
     EXPECT(set_node, LVS_STACK, LVS_DONE, SHEET, .x = 0, .height = 4095);
     EXPECT(set_node, LVS_STACK, LVS_DONE, SHEET, .x = 1, .height = -4095);
     EXPECT(fill_slopes, LVS_STACK, LVS_TOO_STEEP, SHEET, .stiffness = gap);
+}
+
+/* Bends on an accepted sheet whose lines lie `gap` apart, the last at `last`: at nodes, where most pieces touch, in the middle of edges and cells, and refused
+ * by each condition of its own. */
+static void bent(uint8_t *sheet, size_t len, uint32_t gap, uint32_t last) {
+    uint32_t step = gap > 1 ? gap / 2 : 1;
+    for (uint32_t y = 0; y <= last; y += step)
+        for (uint32_t x = 0; x <= last; x += step) EXPECT(bends, LVS_STACK, LVS_DONE, SHEET, .x = x, .y = y, .places = LVS_BEND_PLACES);
+    EXPECT(bends, LVS_STACK, LVS_OUTSIDE, SHEET, .y = last + 1, .places = LVS_BEND_PLACES);
+    EXPECT(bends, LVS_STACK, LVS_FEW_PLACES, SHEET, .places = LVS_BEND_PLACES - 1);
 }
 
 /* Every call on an accepted sheet with so many lines each way, the last at `last`: done, and refused by each condition of its own. */
@@ -154,6 +172,7 @@ static void accepted(uint8_t *sheet, size_t len, uint32_t lines, uint32_t last) 
     EXPECT(read, LVS_STACK, LVS_KIND, SHEET, .kind = LVS_BEND + 1);
     EXPECT(fill_run, LVS_RUN_STACK, LVS_OUTSIDE, SHEET, .x = 1, .levels = levels, .count = last + 1);
     EXPECT(fill_run, LVS_RUN_STACK, LVS_EMPTY_RUN, SHEET, .levels = levels, .count = 0);
+    bent(sheet, len, last / (lines - 1), last);
     filled(sheet, len, last / (lines - 1));
 }
 

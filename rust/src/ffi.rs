@@ -1,4 +1,4 @@
-//! The archive's seven calls, bare, as its C header has them.
+//! The archive's eight calls, bare, as its C header has them.
 //!
 //! Each gives 0 or the number of a refusal, but for [`lvs_node_offset`].
 //! None keeps, allocates or shares anything.
@@ -6,7 +6,8 @@
 //! # Safety
 //!
 //! `sheet` must be fit to be read for `len` bytes (and to be written by [`lvs_set_node`] and
-//! [`lvs_fill_slopes`]), `values` to be written for three numbers and `levels` for `count`.
+//! [`lvs_fill_slopes`]), `values` to be written for three numbers, `levels` for `count`, `bends` for
+//! `places` and `pieces` for one.
 //! Pointers are aligned for their type; with a length of 0 one is never followed and may be null.
 //! Memory that a call may write is lent to it alone.
 
@@ -42,6 +43,18 @@ extern "C" {
         y: u32,
         kind: u32,
         values: *mut [f64; 3],
+    ) -> u32;
+
+    /// Gives the bend from each piece that touches a pixel, and how many do. Places of `bends` beyond
+    /// the list keep their contents.
+    pub fn lvs_bends(
+        sheet: *const u8,
+        len: usize,
+        x: u32,
+        y: u32,
+        bends: *mut i64,
+        places: usize,
+        pieces: *mut u32,
     ) -> u32;
 
     /// Fills a run of levels, in grains, along a row.

@@ -23,6 +23,16 @@
 //! assert_eq!(light_sheet::tilt(&sheet, 1, 1)?, [-0.375, -0.375]);
 //! assert_eq!(light_sheet::bend(&sheet, 1, 1)?, [0.0, 0.75, 0.0]);
 //!
+//! // In a cell of four pixels each way, where that node has but a slope, the bends jump on the
+//! // diagonal: from the top piece they are others than from the left one.
+//! let mut sloped = sheet;
+//! (sloped[10], sloped[14]) = (4, 4);
+//! let slope = light_sheet::Node { height: 0, x_slope: 64, y_slope: 0 };
+//! light_sheet::set_node(&mut sloped, 0, 0, slope)?;
+//! let mut list = [0; light_sheet::BEND_PLACES];
+//! assert_eq!(light_sheet::bends(&sloped, 1, 1, &mut list)?, 2);
+//! assert_eq!(list[..6], [-2560, 256, -768, -1792, -512, 0]);
+//!
 //! // The top row, in grains.
 //! let mut levels = [0; 3];
 //! light_sheet::fill_run(&sheet, 0, 0, &mut levels)?;
@@ -53,6 +63,9 @@ pub use refusal::Refusal;
 
 /// Grains in a step: runs and slopes are in grains, heights and levels in steps.
 pub const GRAINS_PER_STEP: i32 = 64;
+
+/// Places that [`bends`] asks for: at most eight pieces touch a pixel, three numbers each.
+pub const BEND_PLACES: usize = 24;
 
 /// Reading kind 0: the level.
 pub const LEVEL: u32 = 0;
@@ -157,6 +170,25 @@ pub fn read(sheet: &[u8], x: u32, y: u32, kind: u32) -> Result<Reading, Refusal>
         BEND => Reading::Bend(values),
         _ => unreachable!("the archive accepted reading kind {kind}"),
     })
+}
+
+/// The bend from each piece that touches a pixel, as whole numbers; gives how many pieces do.
+///
+/// Bends jump where pieces meet: on the lines of the mesh and on the diagonals, which cut a cell
+/// into four pieces, 0 top, 1 right, 2 bottom, 3 left. The list runs by cells, row by row, then by
+/// pieces in order of number. Each has three numbers, xx, xy and yy, in 1/64 grain per pixel per
+/// pixel. So the first `3 * pieces` places of `list` are written, and the others keep their
+/// contents; there must be [`BEND_PLACES`] all the same.
+///
+/// What [`bend`] gives is the entry of the last cell's first piece, divided by 4,096.
+pub fn bends(sheet: &[u8], x: u32, y: u32, list: &mut [i64]) -> Result<usize, Refusal> {
+    let (bends, places) = (list.as_mut_ptr(), list.len());
+    let mut pieces = 0;
+    // SAFETY: both slices are lent for their whole length; `list` and `pieces` to this call alone.
+    answer(unsafe {
+        ffi::lvs_bends(sheet.as_ptr(), sheet.len(), x, y, bends, places, &mut pieces)
+    })?;
+    Ok(pieces as usize)
 }
 
 /// Fills `levels` along a row, one per pixel to the right from (x, y), in grains.

@@ -1,4 +1,4 @@
-//! Why a call declines: the thirteen conditions, by name and number.
+//! Why a call declines: the fourteen conditions, by name and number.
 
 use std::error::Error;
 use std::fmt;
@@ -35,11 +35,13 @@ pub enum Refusal {
     Stiffness = 12,
     /// 13: a filled slope outside -4095 to 4095.
     TooSteep = 13,
+    /// 14: fewer than 24 places for bends.
+    FewPlaces = 14,
 }
 
 impl Refusal {
-    /// All thirteen, in order of number.
-    pub const ALL: [Refusal; 13] = [
+    /// All fourteen, in order of number.
+    pub const ALL: [Refusal; 14] = [
         Refusal::Mark,
         Refusal::Version,
         Refusal::Counts,
@@ -53,9 +55,10 @@ impl Refusal {
         Refusal::NewNumbers,
         Refusal::Stiffness,
         Refusal::TooSteep,
+        Refusal::FewPlaces,
     ];
 
-    /// The number of the condition, 1 to 13.
+    /// The number of the condition, 1 to 14.
     pub fn number(self) -> u32 {
         self as u32
     }
@@ -81,6 +84,7 @@ impl Refusal {
             Refusal::NewNumbers => "a new height or slope is outside -4095 to 4095",
             Refusal::Stiffness => "the stiffness is above 64",
             Refusal::TooSteep => "a filled slope would be outside -4095 to 4095",
+            Refusal::FewPlaces => "there are fewer than 24 places for bends",
         }
     }
 }

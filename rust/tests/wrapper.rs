@@ -7,13 +7,20 @@ use light_sheet::{ffi, Node, Reading, Refusal};
 
 /// Lines 0 and 2 across, 1, 3 and 4 down; every number differs from every other.
 fn sheet() -> Vec<u8> {
-    let mut bytes = b"LVS\x01\x00\x02\x03\x00".to_vec();
-    bytes.extend([0u16, 2, 1, 3, 4].iter().flat_map(|line| line.to_le_bytes()));
+    let mut bytes = header_and_lines(&[0, 2], &[1, 3, 4]);
     for (column, row) in nodes() {
         let Node { height, x_slope, y_slope } = node_at(column, row);
         let numbers = [height, x_slope, y_slope];
         bytes.extend(numbers.iter().flat_map(|&number| (number as i16).to_le_bytes()));
     }
+    bytes
+}
+
+/// The bytes of a sheet before its nodes.
+fn header_and_lines(x_lines: &[u16], y_lines: &[u16]) -> Vec<u8> {
+    let mut bytes = b"LVS\x01\x00".to_vec();
+    bytes.extend([x_lines.len() as u8, y_lines.len() as u8, 0]);
+    bytes.extend(x_lines.iter().chain(y_lines).flat_map(|line| line.to_le_bytes()));
     bytes
 }
 
@@ -27,7 +34,7 @@ fn node_at(column: u32, row: u32) -> Node {
 }
 
 /// The refusals, their numbers and their words.
-const REFUSALS: [(Refusal, u32, &str); 13] = [
+const REFUSALS: [(Refusal, u32, &str); 14] = [
     (Refusal::Mark, 1, "fewer than 8 bytes, or another mark than LVS"),
     (Refusal::Version, 2, "the sheet's version is not 1"),
     (Refusal::Counts, 3, "a count of lines is outside 2 to 65, or byte 7 is not 0"),
@@ -41,6 +48,7 @@ const REFUSALS: [(Refusal, u32, &str); 13] = [
     (Refusal::NewNumbers, 11, "a new height or slope is outside -4095 to 4095"),
     (Refusal::Stiffness, 12, "the stiffness is above 64"),
     (Refusal::TooSteep, 13, "a filled slope would be outside -4095 to 4095"),
+    (Refusal::FewPlaces, 14, "there are fewer than 24 places for bends"),
 ];
 
 #[test]
@@ -56,6 +64,7 @@ fn functions_have_their_types() {
     let _: fn(&[u8], u32, u32) -> Result<[f64; 2], Refusal> = light_sheet::tilt;
     let _: fn(&[u8], u32, u32) -> Result<[f64; 3], Refusal> = light_sheet::bend;
     let _: fn(&[u8], u32, u32, u32) -> Result<Reading, Refusal> = light_sheet::read;
+    let _: fn(&[u8], u32, u32, &mut [i64]) -> Result<usize, Refusal> = light_sheet::bends;
     let _: fn(&[u8], u32, u32, &mut [i32]) -> Result<(), Refusal> = light_sheet::fill_run;
     let _: fn(Refusal) -> u32 = Refusal::number;
     let _: fn(u32) -> Option<Refusal> = Refusal::from_number;
@@ -70,7 +79,7 @@ fn refusals_have_their_numbers_and_words() {
         assert_eq!(Refusal::from_number(number), Some(refusal));
         assert_eq!(refusal.to_string(), format!("{words} (refusal {number})"));
     }
-    for number in [0, 14, 257, 65_537, u32::MAX] {
+    for number in [0, 15, 257, 65_537, u32::MAX] {
         assert_eq!(Refusal::from_number(number), None);
     }
 }
@@ -114,6 +123,7 @@ fn assert_refused(sheet: &mut [u8], refusal: Refusal) {
     assert_eq!(light_sheet::tilt(sheet, 0, 1), Err(refusal));
     assert_eq!(light_sheet::bend(sheet, 0, 1), Err(refusal));
     assert_eq!(light_sheet::read(sheet, 0, 1, light_sheet::LEVEL), Err(refusal));
+    assert_eq!(light_sheet::bends(sheet, 0, 1, &mut [0; 24]), Err(refusal));
     assert_eq!(light_sheet::fill_run(sheet, 0, 1, &mut [0; 3]), Err(refusal));
 }
 
@@ -125,11 +135,16 @@ fn wrong_calls_are_refused_by_name() {
         assert_eq!(light_sheet::tilt(&sheet, x, y), Err(Refusal::Pixel));
         assert_eq!(light_sheet::bend(&sheet, x, y), Err(Refusal::Pixel));
         assert_eq!(light_sheet::read(&sheet, x, y, 3), Err(Refusal::Pixel));
+        assert_eq!(light_sheet::bends(&sheet, x, y, &mut [0; 23]), Err(Refusal::Pixel));
         assert_eq!(light_sheet::fill_run(&sheet, x, y, &mut [0]), Err(Refusal::Pixel));
     }
     assert_eq!(light_sheet::fill_run(&sheet, 0, 1, &mut [0; 4]), Err(Refusal::Pixel));
     assert_eq!(light_sheet::fill_run(&sheet, 0, 1, &mut []), Err(Refusal::EmptyRun));
     assert_eq!(light_sheet::read(&sheet, 0, 1, 3), Err(Refusal::Kind));
+    for places in [0, 3, 6, 23] {
+        let mut list = vec![0; places];
+        assert_eq!(light_sheet::bends(&sheet, 0, 1, &mut list), Err(Refusal::FewPlaces));
+    }
     let (zero, high) = (Node::default(), Node { height: 4096, ..Node::default() });
     for (column, row) in [(2, 0), (0, 3)] {
         assert_eq!(light_sheet::node(&sheet, column, row), Err(Refusal::Node));
@@ -236,6 +251,60 @@ fn filled_slopes_come_from_the_heights_alone() {
     assert_eq!(sheet, once, "filled twice as once");
 }
 
+/// What a place holds before a call.
+const HELD: i64 = 0x5A5A_5A5A_5A5A_5A5A;
+
+/// The bends at a pixel, three numbers for each piece; the other places are seen to be kept.
+fn bends(sheet: &[u8], x: u32, y: u32) -> Vec<[i64; 3]> {
+    let mut list = [HELD; light_sheet::BEND_PLACES + 2];
+    let pieces = light_sheet::bends(sheet, x, y, &mut list).unwrap();
+    let (written, kept) = list.split_at(3 * pieces);
+    assert!(kept.iter().all(|&place| place == HELD), "places beyond the list are kept");
+    written.chunks_exact(3).map(|bend| bend.try_into().unwrap()).collect()
+}
+
+/// A sheet all of whose numbers are 0, but for those of one node.
+fn sheet_with(x_lines: &[u16], y_lines: &[u16], column: u32, row: u32, node: Node) -> Vec<u8> {
+    let mut bytes = header_and_lines(x_lines, y_lines);
+    bytes.resize(bytes.len() + 6 * x_lines.len() * y_lines.len(), 0);
+    light_sheet::set_node(&mut bytes, column, row, node).unwrap();
+    bytes
+}
+
+const HIGH: Node = Node { height: 1, x_slope: 0, y_slope: 0 };
+const STEEP: Node = Node { height: 0, x_slope: 64, y_slope: 0 };
+
+/// Sheet A: at its first corner two pieces touch, on its edges one, in its middle four.
+#[test]
+fn bends_of_sheet_a_are_as_worked_out() {
+    let a = sheet_with(&[0, 2], &[0, 2], 0, 0, HIGH);
+    assert_eq!(bends(&a, 0, 0), [[-6144, 0, -6144]; 2]);
+    assert_eq!(bends(&a, 1, 0), [[0, 0, -3072]]);
+    assert_eq!(bends(&a, 0, 1), [[-3072, 0, 0]]);
+    assert_eq!(bends(&a, 1, 1), [[0, 3072, 0]; 4]);
+}
+
+/// Pieces 0 and 3, on both sides of a diagonal.
+#[test]
+fn bends_jump_on_a_diagonal_as_worked_out() {
+    let sheet = sheet_with(&[0, 4], &[0, 4], 0, 0, STEEP);
+    assert_eq!(bends(&sheet, 1, 1), [[-2560, 256, -768], [-1792, -512, 0]]);
+}
+
+/// The eight pieces about an inner node, as docs/FORMAT.md works them out by hand.
+#[test]
+fn bends_at_an_inner_node_are_as_worked_out() {
+    let sheet = sheet_with(&[0, 2, 6], &[0, 1, 3], 1, 1, STEEP);
+    let list = bends(&sheet, 2, 1);
+    let left_top = [[6144, 4096, 0], [8192, 0, 8192]];
+    let right_top = [[-4096, 0, -16384], [-3072, 4096, 0]];
+    let left_bottom = [[8192, 0, 2048], [6144, -2048, 0]];
+    let right_bottom = [[-4096, 0, -4096], [-3072, -2048, 0]];
+    assert_eq!(list, [left_top, right_top, left_bottom, right_bottom].concat());
+    let read_from = right_bottom[0].map(|number| number as f64 / 4096.0);
+    assert_eq!(light_sheet::bend(&sheet, 2, 1), Ok(read_from));
+}
+
 #[test]
 fn a_refused_call_changes_nothing() {
     let mut kept = sheet();
@@ -252,6 +321,10 @@ fn a_refused_call_changes_nothing() {
     let mut levels = [7; 4];
     assert_eq!(light_sheet::fill_run(&kept, 0, 1, &mut levels), Err(Refusal::Pixel));
     assert_eq!(levels, [7; 4]);
+    let mut list = [HELD; 23];
+    assert_eq!(light_sheet::bends(&kept, 0, 1, &mut list), Err(Refusal::FewPlaces));
+    assert_eq!(light_sheet::bends(&kept, 3, 1, &mut list), Err(Refusal::Pixel));
+    assert_eq!(list, [HELD; 23]);
 }
 
 #[test]
@@ -261,6 +334,8 @@ fn empty_slices_are_refused() {
     assert_eq!(light_sheet::set_node(&mut [], 0, 0, Node::default()), Err(Refusal::Mark));
     assert_eq!(light_sheet::fill_slopes(&mut [], 65), Err(Refusal::Mark));
     assert_eq!(light_sheet::level(&[], 0, 0), Err(Refusal::Mark));
+    assert_eq!(light_sheet::bends(&[], 0, 0, &mut []), Err(Refusal::Mark));
+    assert_eq!(light_sheet::bends(&sheet(), 0, 1, &mut []), Err(Refusal::FewPlaces));
     assert_eq!(light_sheet::fill_run(&[], 0, 0, &mut []), Err(Refusal::Mark));
     assert_eq!(light_sheet::fill_run(&sheet(), 0, 1, &mut []), Err(Refusal::EmptyRun));
     assert_eq!(light_sheet::fill_run(&sheet(), 0, 0, &mut []), Err(Refusal::Pixel));
@@ -268,9 +343,9 @@ fn empty_slices_are_refused() {
 
 #[test]
 fn nothing_may_be_lent_by_null() {
-    let (sheet, row) = (ptr::null_mut(), ptr::null_mut());
-    let mut values = [0.5; 3];
-    // SAFETY: no bytes and no places are lent but the three values.
+    let (sheet, row, bends) = (ptr::null_mut(), ptr::null_mut(), ptr::null_mut());
+    let (mut values, mut pieces) = ([0.5; 3], 77);
+    // SAFETY: no bytes and no places are lent but the three values and the count of pieces.
     unsafe {
         assert_eq!(ffi::lvs_check(sheet, 0), 1);
         assert_eq!(ffi::lvs_node_refusal(sheet, 0, 0, 0), 1);
@@ -281,8 +356,10 @@ fn nothing_may_be_lent_by_null() {
         assert_eq!(ffi::lvs_fill_run(sheet, 0, 0, 0, row, 0), 1);
         let lent = self::sheet();
         assert_eq!(ffi::lvs_fill_run(lent.as_ptr(), lent.len(), 0, 1, row, 0), 8);
+        assert_eq!(ffi::lvs_bends(sheet, 0, 0, 0, bends, 0, &mut pieces), 1);
+        assert_eq!(ffi::lvs_bends(lent.as_ptr(), lent.len(), 0, 1, bends, 0, &mut pieces), 14);
     }
-    assert_eq!(values, [0.5; 3]);
+    assert_eq!((values, pieces), ([0.5; 3], 77));
 }
 
 #[test]

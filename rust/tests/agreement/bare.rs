@@ -10,16 +10,19 @@ pub struct Places {
     pub len: usize,
     pub values: *mut [f64; 3],
     pub row: *mut i32,
+    pub bends: *mut i64,
+    pub pieces: *mut u32,
 }
 
 /// Makes the call and gives what it returns.
 ///
 /// # Safety
 ///
-/// The sheet is lent in its length, the values for three numbers, the row for the call's count.
+/// The sheet is lent in its length, the values for three numbers, the row for the call's count, the
+/// bends for the call's places, the pieces for one number.
 /// The sheet may be written if the call is there to write it.
 pub unsafe fn make(call: &Call, places: &Places) -> usize {
-    let Places { sheet, len, values, row: levels } = *places;
+    let Places { sheet, len, values, row: levels, bends, pieces } = *places;
     // SAFETY: the caller vouches for what is lent.
     let number = unsafe {
         match *call {
@@ -33,6 +36,7 @@ pub unsafe fn make(call: &Call, places: &Places) -> usize {
             }
             Call::FillSlopes { stiffness } => ffi::lvs_fill_slopes(sheet, len, stiffness),
             Call::Read { x, y, kind } => ffi::lvs_read(sheet, len, x, y, kind, values),
+            Call::Bends { x, y, places } => ffi::lvs_bends(sheet, len, x, y, bends, places, pieces),
             Call::FillRun { x, y, count } => ffi::lvs_fill_run(sheet, len, x, y, levels, count),
         }
     };

@@ -2,8 +2,9 @@
 //!
 //! They are chosen around the ends of a mesh: the sheet's own, or the one it had before damage.
 
-use crate::bench::{Bench, FAR_RUN, LONGEST_RUN};
+use crate::bench::{Bench, FAR, LONGEST_RUN};
 use crate::call::Call;
+use crate::pixels;
 use crate::sheet::Sheet;
 
 /// Makes all of them.
@@ -13,7 +14,7 @@ pub fn run(bench: &mut Bench, mesh: &Sheet) {
         bench.compare(Call::NodeRefusal { column, row });
         bench.compare(Call::NodeOffset { column, row });
     }
-    for (x, y) in pixels(mesh) {
+    for (x, y) in pixels::about_the_ends(mesh) {
         for kind in [0, 1, 2, 3, 256, 257, u32::MAX] {
             bench.compare(Call::Read { x, y, kind });
         }
@@ -31,29 +32,13 @@ pub fn run(bench: &mut Bench, mesh: &Sheet) {
 fn nodes(mesh: &Sheet) -> Vec<(u32, u32)> {
     let around =
         |count: u32| [0, 1, count - 1, count, count + 1, 255, 256, 65_536, 1 << 31, u32::MAX];
-    let mut nodes = cross((0, 0), around(mesh.columns()), around(mesh.rows()));
+    let mut nodes = pixels::cross((0, 0), around(mesh.columns()), around(mesh.rows()));
     nodes.extend([
         (mesh.columns() - 1, mesh.rows() - 1),
         (mesh.columns(), mesh.rows()),
         (u32::MAX, u32::MAX),
     ]);
     nodes
-}
-
-/// Pixels on the ends, one outside each, and where a number cut to 16 bits would be inside.
-fn pixels(mesh: &Sheet) -> Vec<(u32, u32)> {
-    let around = |first: u32, last: u32| {
-        [first, first + 1, last, first.wrapping_sub(1), last + 1, first + 65_536, u32::MAX]
-    };
-    let (first, last) = ((mesh.x_lines[0], mesh.y_lines[0]), (mesh.last_x(), mesh.last_y()));
-    let mut pixels = cross(first, around(first.0, last.0), around(first.1, last.1));
-    pixels.extend([last, (last.0 + 1, last.1 + 1), (last.0, last.1 + 1)]);
-    pixels
-}
-
-/// Each place across with the first one's down, each place down with the first one's across.
-fn cross<const N: usize>(first: (u32, u32), across: [u32; N], down: [u32; N]) -> Vec<(u32, u32)> {
-    [across.map(|place| (place, first.1)), down.map(|place| (first.0, place))].concat()
 }
 
 /// Runs that are empty, end on the last pixel or one beyond it, or wrap 32 bits.
@@ -69,7 +54,7 @@ fn counts(mesh: &Sheet, x: u32) -> Vec<usize> {
 fn far_counts(mesh: &Sheet) -> Vec<usize> {
     let wrapped = 1 << 32;
     let wraps_to_last = wrapped + (mesh.last_x() - mesh.x_lines[0]) as usize + 1;
-    vec![4_097, 4_098, 5_000, 65_536, LONGEST_RUN, wrapped, wrapped + 1, wraps_to_last, FAR_RUN]
+    vec![4_097, 4_098, 5_000, 65_536, LONGEST_RUN, wrapped, wrapped + 1, wraps_to_last, FAR]
 }
 
 /// New numbers on both sides of what is allowed, in each place, and some that 16 bits would allow.

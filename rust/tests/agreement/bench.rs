@@ -12,10 +12,12 @@ use crate::wrapped;
 /// The longest sheet and the longest run that are lent memory one may touch.
 pub const LONGEST_SHEET: usize = 60_000;
 pub const LONGEST_RUN: usize = 70_000;
-/// The longest run at all: its count does not fit 32 bits, and it is always refused.
-pub const FAR_RUN: usize = (1 << 32) + 10_000;
-/// Of a row that long this many places are watched: more than a run can fill.
-const FAR_WATCHED: usize = 5_000;
+/// The most places for bends that are lent memory of their own.
+pub const MOST_PLACES: usize = 40;
+/// The longest run at all, always refused, and the most places: the count does not fit 32 bits.
+pub const FAR: usize = (1 << 32) + 10_000;
+/// Of memory that long this many bytes are watched: more than a run or bends can fill.
+const FAR_WATCHED: usize = 20_000;
 /// Sheets up to this length are printed whole.
 const SHORT: usize = 200;
 
@@ -25,7 +27,9 @@ pub struct Bench {
     decoded: Result<Sheet, u32>,
     values: Lent,
     row: Lent,
-    far_row: Lent,
+    bends: Lent,
+    pieces: Lent,
+    far: Lent,
     untouchable_row: *mut u8,
     turns: Random,
     pub tally: Tally,
@@ -33,16 +37,18 @@ pub struct Bench {
 
 impl Bench {
     pub fn new(seed: u64) -> Bench {
-        let mut far_row = Lent::new(size_of::<i32>() * FAR_RUN);
-        far_row.lend(size_of::<i32>() * FAR_WATCHED, Place::First, seed);
+        let mut far = Lent::new(size_of::<i64>() * FAR);
+        far.lend(FAR_WATCHED, Place::First, seed);
         Bench {
             name: String::new(),
             sheet: Lent::new(LONGEST_SHEET),
             decoded: Err(1),
             values: Lent::new(size_of::<[f64; 3]>()),
             row: Lent::new(size_of::<i32>() * LONGEST_RUN),
-            far_row,
-            untouchable_row: untouchable(size_of::<i32>() * FAR_RUN),
+            bends: Lent::new(size_of::<i64>() * MOST_PLACES),
+            pieces: Lent::new(size_of::<u32>()),
+            far,
+            untouchable_row: untouchable(size_of::<i32>() * FAR),
             turns: Random::new(seed),
             tally: Tally::default(),
         }
@@ -77,7 +83,7 @@ impl Bench {
         self.sheet.allow_writing(call.writes_sheet());
         self.lend_places(&call);
         let returned = self.make(&call, wrapped);
-        self.expect(&outcome);
+        self.expect(&call, &outcome);
         if let (Call::Read { .. }, false) = (call, wrapped) {
             self.tally.count_kept(self.values.expected());
         }
@@ -98,6 +104,15 @@ impl Bench {
                 self.values.expect(0, held.as_flattened());
                 self.values.restore();
             }
+            Call::Bends { places, .. } => {
+                if is_far(call) {
+                    self.far.lend(FAR_WATCHED, Place::First, turn);
+                } else {
+                    self.bends.lend(size_of::<i64>() * places, Place::in_turn(turn, 8), turn);
+                }
+                let turn = self.turns.next();
+                self.pieces.lend(size_of::<u32>(), Place::in_turn(turn, 4), turn);
+            }
             Call::FillRun { count, .. } if !is_far(call) => {
                 self.row.lend(size_of::<i32>() * count, Place::in_turn(turn, 4), turn);
             }
@@ -106,7 +121,7 @@ impl Bench {
     }
 
     /// Writes down what lent memory must now hold.
-    fn expect(&mut self, outcome: &Outcome) {
+    fn expect(&mut self, call: &Call, outcome: &Outcome) {
         match &outcome.written {
             Written::Nothing => {}
             Written::Nodes { offset, bytes } => self.sheet.expect(*offset, bytes),
@@ -114,6 +129,11 @@ impl Bench {
                 let bytes: Vec<u8> =
                     values.iter().flat_map(|value| value.to_bits().to_le_bytes()).collect();
                 self.values.expect(0, &bytes);
+            }
+            Written::Bends(bends) => {
+                let bytes: Vec<u8> = bends.iter().flat_map(|bend| bend.to_le_bytes()).collect();
+                if is_far(call) { &mut self.far } else { &mut self.bends }.expect(0, &bytes);
+                self.pieces.expect(0, &(bends.len() as u32 / 3).to_le_bytes());
             }
             Written::Levels(levels) => {
                 let bytes: Vec<u8> = levels.iter().flat_map(|level| level.to_le_bytes()).collect();
@@ -127,7 +147,11 @@ impl Bench {
         let mut lent = vec![("sheet", &self.sheet)];
         match call {
             Call::Read { .. } => lent.push(("values", &self.values)),
-            Call::FillRun { .. } if is_far(call) => lent.push(("far row", &self.far_row)),
+            Call::Bends { .. } => {
+                lent.push(("bends", if is_far(call) { &self.far } else { &self.bends }));
+                lent.push(("count of pieces", &self.pieces));
+            }
+            Call::FillRun { .. } if is_far(call) => lent.push(("far row", &self.far)),
             Call::FillRun { .. } => lent.push(("row", &self.row)),
             _ => {}
         }
@@ -146,9 +170,10 @@ impl Bench {
             let account = self.account(call, outcome, returned);
             println!("difference {number}: {call:?} ({face})\n{account}");
         }
-        self.values.restore();
-        self.row.restore();
-        self.far_row.restore();
+        let Bench { values, row, bends, pieces, far, .. } = self;
+        for lent in [values, row, bends, pieces, far] {
+            lent.restore();
+        }
         if !self.sheet.is_as_expected() {
             self.sheet.allow_writing(true);
             self.sheet.restore();
@@ -170,17 +195,20 @@ impl Bench {
 
     fn make(&mut self, call: &Call, wrapped: bool) -> usize {
         let by_name = self.turns.once_in(2);
-        let row = match (is_far(call), wrapped) {
-            (false, _) => self.row.pointer(),
-            (true, false) => self.untouchable_row,
+        let far = self.far.pointer();
+        let (row, bends) = match (is_far(call), wrapped) {
+            (false, _) => (self.row.pointer(), self.bends.pointer()),
+            (true, false) => (self.untouchable_row, far),
             // A slice of Rust's must be of memory that may be touched, though no one does.
-            (true, true) => self.far_row.pointer(),
+            (true, true) => (far, far),
         };
         let places = Places {
             sheet: self.sheet.pointer(),
             len: self.sheet.len(),
             values: self.values.pointer().cast(),
             row: row.cast(),
+            bends: bends.cast(),
+            pieces: self.pieces.pointer().cast(),
         };
         // SAFETY: all is lent in the lengths that are passed, though one row may not be touched.
         // The sheet may be written by a call that is there to write it.
@@ -193,13 +221,20 @@ impl Bench {
         }
     }
 
-    /// What the values or a short row hold after the call.
+    /// What the values, the bends or a short row hold after the call.
     fn held_text(&self, call: &Call) -> String {
         match call {
             Call::Read { .. } => {
                 let places = self.values.bytes().chunks_exact(8);
                 let values = places.map(|place| f64::from_le_bytes(place.try_into().unwrap()));
                 format!(", values hold {:?}", values.collect::<Vec<f64>>())
+            }
+            Call::Bends { .. } if !is_far(call) => {
+                let places = self.bends.bytes().chunks_exact(8);
+                let bends = places.map(|place| i64::from_le_bytes(place.try_into().unwrap()));
+                let pieces = u32::from_le_bytes(self.pieces.bytes().try_into().unwrap());
+                let bends = bends.collect::<Vec<i64>>();
+                format!(", count of pieces holds {pieces}, bends hold {bends:?}")
             }
             Call::FillRun { count, .. } if *count <= SHORT => {
                 let places = self.row.bytes().chunks_exact(4);
@@ -220,9 +255,14 @@ impl Bench {
     }
 }
 
-/// Whether a run is so long that it has a row of its own, never filled.
+/// Whether so many places are lent that the memory for it is another: a row that is never filled, or
+/// bends that lie at its start.
 fn is_far(call: &Call) -> bool {
-    matches!(call, Call::FillRun { count, .. } if *count > LONGEST_RUN)
+    match *call {
+        Call::Bends { places, .. } => places > MOST_PLACES,
+        Call::FillRun { count, .. } => count > LONGEST_RUN,
+        _ => false,
+    }
 }
 
 /// What a call must write, in full if it is short.

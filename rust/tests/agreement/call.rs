@@ -1,5 +1,6 @@
-//! The seven calls, and what each must give and write by the independent implementation.
+//! The eight calls, and what each must give and write by the independent implementation.
 
+use crate::bends::{self, LEAST_PLACES};
 use crate::fraction::Fraction;
 use crate::sheet::{in_bounds, Sheet, NODE_BYTES};
 use crate::slopes::{self, MOST_STIFFNESS};
@@ -13,12 +14,21 @@ pub enum Call {
     SetNode { column: u32, row: u32, numbers: [i32; 3] },
     FillSlopes { stiffness: u32 },
     Read { x: u32, y: u32, kind: u32 },
+    Bends { x: u32, y: u32, places: usize },
     FillRun { x: u32, y: u32, count: usize },
 }
 
 /// The names of the calls, in the order of [`Call::index`].
-pub const NAMES: [&str; 7] =
-    ["check", "node_refusal", "node_offset", "set_node", "fill_slopes", "read", "fill_run"];
+pub const NAMES: [&str; 8] = [
+    "check",
+    "node_refusal",
+    "node_offset",
+    "set_node",
+    "fill_slopes",
+    "read",
+    "bends",
+    "fill_run",
+];
 
 /// What a call writes into lent memory.
 #[derive(Clone, Debug, PartialEq)]
@@ -30,6 +40,8 @@ pub enum Written {
         bytes: Vec<u8>,
     },
     Values(Vec<f64>),
+    /// Three numbers for each piece; their count is written besides.
+    Bends(Vec<i64>),
     Levels(Vec<i32>),
 }
 
@@ -54,7 +66,8 @@ impl Call {
             Call::SetNode { .. } => 3,
             Call::FillSlopes { .. } => 4,
             Call::Read { .. } => 5,
-            Call::FillRun { .. } => 6,
+            Call::Bends { .. } => 6,
+            Call::FillRun { .. } => 7,
         }
     }
 
@@ -96,6 +109,7 @@ impl Call {
             Call::SetNode { column, row, numbers } => set_node(sheet, column, row, numbers),
             Call::FillSlopes { stiffness } => fill_slopes(sheet, stiffness),
             Call::Read { x, y, kind } => read(sheet, x, y, kind),
+            Call::Bends { x, y, places } => give_bends(sheet, x, y, places),
             Call::FillRun { x, y, count } => fill_run(sheet, x, y, count),
         }
     }
@@ -168,6 +182,17 @@ fn read(sheet: &Sheet, x: u32, y: u32, kind: u32) -> Result<Outcome, u32> {
         1 => Outcome::rounds(&exact.tilt, values(64.0)),
         _ => Outcome::rounds(&exact.bend, values(4096.0)),
     })
+}
+
+/// 14 when the buffer has fewer than 24 places, after 7.
+fn give_bends(sheet: &Sheet, x: u32, y: u32, places: usize) -> Result<Outcome, u32> {
+    if !sheet.holds(x, y) {
+        return Err(7);
+    }
+    if places < LEAST_PLACES {
+        return Err(14);
+    }
+    Ok(Outcome::rounds(bends::exact(sheet, x, y).as_flattened(), Written::Bends))
 }
 
 fn fill_run(sheet: &Sheet, x: u32, y: u32, count: usize) -> Result<Outcome, u32> {

@@ -55,6 +55,7 @@ pub struct Piece {
 }
 
 /// The exact readings at a point.
+#[derive(Clone, Copy, Debug)]
 pub struct Exact {
     pub level: Fraction,
     pub tilt: [Fraction; 2],
@@ -187,14 +188,17 @@ impl Piece {
     }
 }
 
-/// What all readings are exactly at a pixel of the cell, counted from its left top.
-///
-/// The first piece that holds it is read: on a diagonal, the one of the lowest number.
-pub fn at_pixel(pieces: &[Piece; 4], right: u32, down: u32) -> Exact {
+/// What all readings are exactly at a pixel of the cell, counted from its left top, from each piece
+/// whose triangle holds it, edges and corners included.
+pub fn from_each(pieces: &[Piece; 4], right: u32, down: u32) -> impl Iterator<Item = Exact> + '_ {
     let place = [2 * i128::from(right), 2 * i128::from(down)];
-    let holds = |piece: &&Piece| piece.weights(place).iter().all(|&weight| weight >= 0);
-    let piece = pieces.iter().find(holds).expect("the pieces cover the cell");
-    piece.at(piece.weights(place))
+    let holds = move |piece: &&Piece| piece.weights(place).iter().all(|&weight| weight >= 0);
+    pieces.iter().filter(holds).map(move |piece| piece.at(piece.weights(place)))
+}
+
+/// The same from the first piece that holds it: on a diagonal, the one of the lowest number.
+pub fn at_pixel(pieces: &[Piece; 4], right: u32, down: u32) -> Exact {
+    from_each(pieces, right, down).next().expect("the pieces cover the cell")
 }
 
 /// How often each vertex is named.

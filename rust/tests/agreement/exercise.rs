@@ -2,6 +2,7 @@
 
 use crate::bench::Bench;
 use crate::call::{Call, Written};
+use crate::pixels;
 use crate::random::Random;
 use crate::sheet::{Sheet, GRAINS_PER_STEP};
 
@@ -20,11 +21,8 @@ pub fn run(bench: &mut Bench, random: &mut Random, depth: Depth) {
     let Some(sheet) = bench.sheet().cloned() else {
         return;
     };
-    let pixels = if pixel_count(&sheet) <= depth.pixels {
-        every_pixel(&sheet)
-    } else {
-        chosen_pixels(&sheet, random, depth.pixels)
-    };
+    let pixels = pixels::every_up_to(&sheet, depth.pixels)
+        .unwrap_or_else(|| pixels::of_every_sort(&sheet, random, depth.pixels));
     for (x, y) in pixels {
         for kind in 0..3 {
             bench.compare(Call::Read { x, y, kind });
@@ -42,71 +40,16 @@ pub fn run(bench: &mut Bench, random: &mut Random, depth: Depth) {
     }
 }
 
-fn width(sheet: &Sheet) -> u32 {
-    sheet.last_x() - sheet.x_lines[0] + 1
-}
-
-fn pixel_count(sheet: &Sheet) -> usize {
-    width(sheet) as usize * (sheet.last_y() - sheet.y_lines[0] + 1) as usize
-}
-
-fn every_pixel(sheet: &Sheet) -> Vec<(u32, u32)> {
-    let rows = sheet.y_lines[0]..=sheet.last_y();
-    rows.flat_map(|y| (sheet.x_lines[0]..=sheet.last_x()).map(move |x| (x, y))).collect()
-}
-
-/// Pixels in equal parts anywhere, on nodes and beside them, on lines, and on diagonals.
-fn chosen_pixels(sheet: &Sheet, random: &mut Random, count: usize) -> Vec<(u32, u32)> {
-    let mut pixels = Vec::new();
-    while pixels.len() < count {
-        let anywhere = any_pixel(sheet, random);
-        let node = (random.pick(&sheet.x_lines), random.pick(&sheet.y_lines));
-        pixels.extend([anywhere, node, (node.0, anywhere.1), (anywhere.0, node.1)]);
-        pixels.push(beside(sheet, random, node));
-        pixels.extend(on_diagonals(sheet, random));
-    }
-    pixels
-}
-
-fn any_pixel(sheet: &Sheet, random: &mut Random) -> (u32, u32) {
-    let mut between = |first: u32, last: u32| random.between(first.into(), last.into()) as u32;
-    (between(sheet.x_lines[0], sheet.last_x()), between(sheet.y_lines[0], sheet.last_y()))
-}
-
-/// A pixel next to this one, or itself, inside the mesh.
-fn beside(sheet: &Sheet, random: &mut Random, (x, y): (u32, u32)) -> (u32, u32) {
-    let mut step = |from: u32| from.wrapping_add_signed(random.between(-1, 1) as i32);
-    let (beside_x, beside_y) = (step(x), step(y));
-    if sheet.holds(beside_x, beside_y) {
-        (beside_x, beside_y)
-    } else {
-        (x, y)
-    }
-}
-
-/// A pixel on each diagonal of a random cell.
-fn on_diagonals(sheet: &Sheet, random: &mut Random) -> [(u32, u32); 2] {
-    let (column, row) =
-        (random.index(sheet.x_lines.len() - 1), random.index(sheet.y_lines.len() - 1));
-    let (left, right) = (sheet.x_lines[column], sheet.x_lines[column + 1]);
-    let (top, bottom) = (sheet.y_lines[row], sheet.y_lines[row + 1]);
-    let (width, height) = (right - left, bottom - top);
-    let on_both: Vec<u32> = (0..=width).filter(|across| across * height % width == 0).collect();
-    let across = random.pick(&on_both);
-    let down = across * height / width;
-    [(left + across, top + down), (right - across, top + down)]
-}
-
 fn whole_row(bench: &mut Bench, random: &mut Random, sheet: &Sheet) {
-    let (_, anywhere) = any_pixel(sheet, random);
+    let (_, anywhere) = pixels::any(sheet, random);
     let on_line = random.pick(&sheet.y_lines);
     let y = random.pick(&[anywhere, on_line]);
-    bench.compare(Call::FillRun { x: sheet.x_lines[0], y, count: width(sheet) as usize });
+    bench.compare(Call::FillRun { x: sheet.x_lines[0], y, count: pixels::width(sheet) as usize });
 }
 
 /// A run that mostly ends inside, and at times beyond.
 fn part_of_row(bench: &mut Bench, random: &mut Random, sheet: &Sheet) {
-    let (x, y) = any_pixel(sheet, random);
+    let (x, y) = pixels::any(sheet, random);
     let to_last = i64::from(sheet.last_x() - x) + 1;
     bench.compare(Call::FillRun { x, y, count: random.between(1, to_last + 1) as usize });
     bench.compare(Call::FillRun { x, y, count: to_last as usize });
@@ -129,7 +72,7 @@ fn set_and_read_back(bench: &mut Bench, random: &mut Random, sheet: &Sheet) {
     let slopes_in_steps = vec![x_slope / GRAINS_PER_STEP as f64, y_slope / GRAINS_PER_STEP as f64];
     assert_eq!(level.written, Written::Values(vec![height]));
     assert_eq!(tilt.written, Written::Values(slopes_in_steps));
-    let (x, y) = beside(sheet, random, (x, y));
+    let (x, y) = pixels::beside(sheet, random, (x, y));
     bench.compare(Call::Read { x, y, kind: 2 });
     bench.compare(Call::Check);
     bench.compare(Call::NodeOffset { column, row });

@@ -3,6 +3,7 @@
 use std::slice;
 
 use crate::bare::{self, Places};
+use crate::bends::LEAST_PLACES;
 use crate::boundaries;
 use crate::call::Call;
 use crate::lent::holding;
@@ -38,9 +39,16 @@ impl Far {
     /// What the sheet holds beyond its first bytes is too much to be watched.
     fn compare(&self, tally: &mut Tally, call: &Call, wrapped: bool, by_name: bool) {
         let Far { sheet, len, .. } = *self;
-        let (values, row) = ([0.5; 3], [77; 4]);
-        let (mut values_lent, mut row_lent) = (values, row);
-        let places = Places { sheet, len, values: &mut values_lent, row: row_lent.as_mut_ptr() };
+        let held = ([0.5; 3], [77; 4], [55; LEAST_PLACES], 33);
+        let mut lent = held;
+        let places = Places {
+            sheet,
+            len,
+            values: &mut lent.0,
+            row: lent.1.as_mut_ptr(),
+            bends: lent.2.as_mut_ptr(),
+            pieces: &mut lent.3,
+        };
         // SAFETY: the sheet may be read and written in its length, and there are places enough.
         let (returned, first_bytes) = unsafe {
             let returned = if wrapped {
@@ -52,7 +60,7 @@ impl Far {
         };
         let outcome = call.outcome(&Err(4));
         tally.count_call(call, &outcome, wrapped);
-        let kept = first_bytes == self.first_bytes && values_lent == values && row_lent == row;
+        let kept = first_bytes == self.first_bytes && lent == held;
         if returned == outcome.returned && kept {
             return;
         }
@@ -65,7 +73,7 @@ impl Far {
 }
 
 /// Each, and a reading of each kind; they would be accepted were the length right.
-fn calls() -> [Call; 9] {
+fn calls() -> [Call; 10] {
     let (column, row) = (1, 1);
     let (x, y) = (3, 0);
     [
@@ -75,6 +83,7 @@ fn calls() -> [Call; 9] {
         Call::Read { x, y, kind: 0 },
         Call::Read { x, y, kind: 1 },
         Call::Read { x, y, kind: 2 },
+        Call::Bends { x, y, places: LEAST_PLACES },
         Call::FillRun { x, y, count: 4 },
         // Last, because what is set or filled stays so.
         Call::SetNode { column, row, numbers: [1, 2, 3] },

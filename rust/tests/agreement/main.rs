@@ -8,8 +8,10 @@
 mod bare;
 mod battery;
 mod bench;
+mod bends;
 mod boundaries;
 mod call;
+mod creases;
 mod damage;
 mod draft;
 mod element;
@@ -21,6 +23,7 @@ mod lent;
 mod meshes;
 mod options;
 mod patterns;
+mod pixels;
 mod random;
 mod requests;
 mod round;

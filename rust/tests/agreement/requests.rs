@@ -6,9 +6,9 @@ use std::path::PathBuf;
 use crate::call::{Call, Outcome, Written};
 
 /// The files, and how many cases each has.
-const FILES: [(&str, usize); 1] = [("101-slopes.txt", 140)];
+const FILES: [(&str, usize); 2] = [("101-slopes.txt", 140), ("102-bends.txt", 140)];
 /// The last request that has landed: cases that hold until it, or until an earlier one, do not.
-const LANDED: u32 = 101;
+const LANDED: u32 = 102;
 
 /// A call on a sheet, and what it comes to.
 pub struct Case {
@@ -48,6 +48,10 @@ fn case(name: String, line: &str) -> Option<Case> {
         ["fill_slopes", sheet, stiffness] => {
             (sheet, Call::FillSlopes { stiffness: stiffness.parse().expect("a stiffness") })
         }
+        ["bends", sheet, x, y, places] => {
+            let [x, y] = [x, y].map(|word| word.parse().expect("a pixel"));
+            (sheet, Call::Bends { x, y, places: places.parse().expect("places") })
+        }
         _ => panic!("{name}: not a call"),
     };
     Some(Case { name, sheet: bytes(sheet), call, answer: answer.to_string() })
@@ -63,6 +67,10 @@ pub fn answer(sheet: &[u8], outcome: &Outcome) -> String {
             left[*offset..*offset + bytes.len()].copy_from_slice(bytes);
             let digits: String = left.iter().map(|byte| format!("{byte:02x}")).collect();
             format!("{number} {digits}")
+        }
+        Written::Bends(bends) => {
+            let numbers: String = bends.iter().map(|bend| format!(" {bend}")).collect();
+            format!("{number} {}{numbers}", bends.len() / 3)
         }
         written => panic!("no case writes {written:?}"),
     }

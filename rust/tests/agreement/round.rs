@@ -4,6 +4,7 @@ use crate::battery;
 use crate::bench::Bench;
 use crate::boundaries;
 use crate::call::{Call, Written};
+use crate::creases;
 use crate::damage;
 use crate::draft::Draft;
 use crate::exercise::{self, Depth};
@@ -11,6 +12,7 @@ use crate::filling;
 use crate::meshes;
 use crate::random::Random;
 use crate::requests::Case;
+use crate::sheet::Sheet;
 use crate::steep;
 use crate::vectors::Vector;
 use crate::worst;
@@ -58,6 +60,10 @@ pub fn run(bench: &mut Bench, seed: u64) {
     for (k, draft) in worst::sheets().iter().enumerate() {
         accepted(bench, random, &format!("seed {seed}, worst sheet {k}"), draft, WHOLE);
     }
+    for (k, (draft, pixel)) in worst::creased_sheets().into_iter().enumerate() {
+        bench.lay(&format!("seed {seed}, worst creased sheet {k}"), &draft.bytes());
+        creases::beside_the_reading(bench, random, &draft.sheet(), pixel);
+    }
     for (k, (draft, stiffness)) in steep::sheets().into_iter().enumerate() {
         bench.lay(&format!("seed {seed}, steep sheet {k}"), &draft.bytes());
         bench.compare(Call::FillSlopes { stiffness });
@@ -74,9 +80,7 @@ pub fn run(bench: &mut Bench, seed: u64) {
         let draft = meshes::any(random);
         let (damage, bytes) = damage::damaged(random, &draft);
         bench.lay(&format!("seed {seed}, damaged sheet {k}: {damage}"), &bytes);
-        exercise::run(bench, random, DAMAGED);
-        battery::run(bench, &draft.sheet());
-        filling::run(bench, random);
+        everything(bench, random, &draft.sheet(), DAMAGED);
     }
 }
 
@@ -85,15 +89,19 @@ fn boundary_sheets(bench: &mut Bench, random: &mut Random, seed: u64) {
     for boundary in boundaries::all(random) {
         bench.lay(&format!("seed {seed}, boundary {}", boundary.name), &boundary.bytes);
         let mesh = bench.sheet().unwrap_or(&base).clone();
-        exercise::run(bench, random, DAMAGED);
-        battery::run(bench, &mesh);
-        filling::run(bench, random);
+        everything(bench, random, &mesh, DAMAGED);
     }
 }
 
 fn accepted(bench: &mut Bench, random: &mut Random, name: &str, draft: &Draft, depth: Depth) {
     bench.lay(name, &draft.bytes());
+    everything(bench, random, &draft.sheet(), depth);
+}
+
+/// Every call on the sheet that lies there, with arguments about the ends of a mesh too.
+fn everything(bench: &mut Bench, random: &mut Random, mesh: &Sheet, depth: Depth) {
     exercise::run(bench, random, depth);
-    battery::run(bench, &draft.sheet());
+    battery::run(bench, mesh);
+    creases::run(bench, random, mesh);
     filling::run(bench, random);
 }

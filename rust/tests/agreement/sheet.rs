@@ -1,8 +1,8 @@
 //! The sheet's format and its six refusals, read from the format's description.
 
-use std::cell::RefCell;
+use std::cell::{Ref, RefCell};
 
-use crate::element::{at_pixel, Cell, Corner, Exact, Piece};
+use crate::element::{at_pixel, from_each, Cell, Corner, Exact, Piece};
 
 pub const GRAINS_PER_STEP: i128 = 64;
 pub const HEADER: usize = 8;
@@ -102,16 +102,23 @@ impl Sheet {
     /// The exact readings at a pixel inside the mesh.
     pub fn exact(&self, x: u32, y: u32) -> Exact {
         let (column, row) = (line_before(&self.x_lines, x), line_before(&self.y_lines, y));
-        let (right, down) = (x - self.x_lines[column], y - self.y_lines[row]);
-        let mut latest = self.latest.borrow_mut();
-        if !matches!(*latest, Some((cell, _)) if cell == (column, row)) {
-            *latest = Some(((column, row), self.cell(column, row).pieces()));
-        }
-        let (_, pieces) = latest.as_ref().unwrap();
-        at_pixel(pieces, right, down)
+        at_pixel(&self.pieces(column, row), x - self.x_lines[column], y - self.y_lines[row])
     }
 
-    /// The cell to the right of a line and below another.
+    /// The exact readings at a pixel of this cell from each of its pieces that touches it, by number.
+    pub fn exact_in(&self, column: usize, row: usize, x: u32, y: u32) -> Vec<Exact> {
+        let (right, down) = (x - self.x_lines[column], y - self.y_lines[row]);
+        from_each(&self.pieces(column, row), right, down).collect()
+    }
+
+    /// The pieces of the cell to the right of a line and below another.
+    fn pieces(&self, column: usize, row: usize) -> Ref<'_, [Piece; 4]> {
+        if !matches!(*self.latest.borrow(), Some((cell, _)) if cell == (column, row)) {
+            self.latest.replace(Some(((column, row), self.cell(column, row).pieces())));
+        }
+        Ref::map(self.latest.borrow(), |latest| &latest.as_ref().expect("put there above").1)
+    }
+
     fn cell(&self, column: usize, row: usize) -> Cell {
         let round = [(column, row), (column + 1, row), (column + 1, row + 1), (column, row + 1)];
         Cell {

@@ -11,7 +11,11 @@ const LEAST_CALLS: u64 = 5_000_000;
 /// Differences printed in full; more are only counted.
 const SHOWN: u64 = 5;
 /// Refusals are numbered from 1 to this.
-const REFUSALS: usize = 13;
+const REFUSALS: usize = 14;
+/// What is rounded, apart: readings and runs, filled slopes, bends from each piece.
+const ROUNDED: [&str; 3] = ["readings and runs", "filled slopes", "bends from each piece"];
+/// How many pieces can touch a pixel.
+const TOUCHING: [usize; 4] = [1, 2, 4, 8];
 
 #[derive(Default)]
 pub struct Tally {
@@ -23,8 +27,10 @@ pub struct Tally {
     values: u64,
     levels: u64,
     slopes: u64,
-    ties: [u64; 2],
-    slope_ties: [u64; 2],
+    /// Lists of bends by how many pieces they have.
+    lists: [u64; TOUCHING.len()],
+    /// Ties by what is rounded, negative ones and positive ones.
+    ties: [[u64; 2]; ROUNDED.len()],
     /// NaN in slots that a bare reading keeps, signalling ones and quiet ones.
     kept_nans: [u64; 2],
     differences: u64,
@@ -40,17 +46,24 @@ impl Tally {
         watch::call_ended();
         self.calls[call.index()][outcome.refusal as usize] += 1;
         self.wrapped += u64::from(wrapped);
-        let fills = matches!(call, Call::FillSlopes { .. });
+        let rounded = match call {
+            Call::FillSlopes { .. } => 1,
+            Call::Bends { .. } => 2,
+            _ => 0,
+        };
         match &outcome.written {
             Written::Values(values) => self.values += values.len() as u64,
             Written::Levels(levels) => self.levels += levels.len() as u64,
-            Written::Nodes { bytes, .. } if fills => {
+            Written::Bends(bends) => {
+                let count = TOUCHING.iter().position(|count| 3 * count == bends.len());
+                self.lists[count.expect("one, two, four or eight pieces touch")] += 1;
+            }
+            Written::Nodes { bytes, .. } if rounded == 1 => {
                 self.slopes += (2 * bytes.len() / NODE_BYTES) as u64;
             }
             Written::Nothing | Written::Nodes { .. } => {}
         }
-        let ties = if fills { &mut self.slope_ties } else { &mut self.ties };
-        for (all, new) in ties.iter_mut().zip(outcome.ties) {
+        for (all, new) in self.ties[rounded].iter_mut().zip(outcome.ties) {
             *all += new;
         }
     }
@@ -89,11 +102,14 @@ impl Tally {
         for refusal in (1..=REFUSALS).filter(|&refusal| self.refused(refusal) == 0) {
             complaints.push(format!("refusal {refusal} was never met"));
         }
-        if self.wrapped == 0 || self.levels == 0 || self.ties.contains(&0) {
-            complaints.push("wrapper, levels or ties were never met".to_string());
+        if self.wrapped == 0 || self.levels == 0 || self.slopes == 0 {
+            complaints.push("wrapper, levels or filled slopes were never met".to_string());
         }
-        if self.slopes == 0 || self.slope_ties.contains(&0) {
-            complaints.push("filled slopes or their ties were never met".to_string());
+        if self.lists.contains(&0) {
+            complaints.push("no list of some count of pieces was ever met".to_string());
+        }
+        for (name, _) in ROUNDED.iter().zip(self.ties).filter(|(_, ties)| ties.contains(&0)) {
+            complaints.push(format!("no tie of some sign was ever met: {name}"));
         }
         if self.kept_nans.contains(&0) {
             complaints.push("no NaN of some kind was ever kept".to_string());
@@ -116,12 +132,19 @@ impl Tally {
         let all: Vec<u64> = (0..=REFUSALS).map(|refusal| self.refused(refusal)).collect();
         println!("{:<13}{:>9}{}", "calls", self.call_count(), by_number(&all));
         println!("calls made through the safe wrapper: {}", self.wrapped);
-        let written = self.values + self.levels + self.slopes;
+        let pieces: u64 = self.lists.iter().zip(TOUCHING).map(|(n, count)| n * count as u64).sum();
+        let lists: u64 = self.lists.iter().sum();
+        // A list has three numbers for each piece, and their count.
+        let bends = 3 * pieces + lists;
+        let written = self.values + self.levels + self.slopes + bends;
         println!("single numbers compared: {}", self.call_count() + written);
         println!("  of them levels in runs: {}, slopes filled: {}", self.levels, self.slopes);
-        println!("ties met: {} positive, {} negative", self.ties[1], self.ties[0]);
-        let [below, above] = self.slope_ties;
-        println!("ties of filled slopes met: {above} positive, {below} negative");
+        let [one, two, four, eight] = self.lists;
+        println!("lists of bends: {lists}, of {pieces} pieces in all");
+        println!("  from one piece: {one}, two: {two}, four: {four}, eight: {eight}");
+        for (name, [below, above]) in ROUNDED.iter().zip(self.ties) {
+            println!("ties met, {name}: {above} positive, {below} negative");
+        }
         let [signalling, quiet] = self.kept_nans;
         println!("NaN kept in arrays: {quiet} quiet, {signalling} signalling");
         println!("differences: {}", self.differences);

@@ -3,11 +3,14 @@
 
 use std::fmt::Write;
 
+use crate::bends;
 use crate::boundaries;
 use crate::call::{Call, Written};
 use crate::draft::Draft;
 use crate::element::{Cell, Corner, Exact, Piece, Weights};
 use crate::fraction::Fraction;
+use crate::meshes;
+use crate::pixels;
 use crate::random::Random;
 use crate::requests::{self, Case};
 use crate::sheet::Sheet;
@@ -24,6 +27,10 @@ pub fn check(random: &mut Random, vectors: &[Vector], cases: &[Case]) {
     }
     worked_examples();
     filled_example();
+    creased_examples();
+    for _ in 0..200 {
+        reads_beside_creases(&meshes::any(random).sheet());
+    }
     for boundary in boundaries::all(random) {
         let refusal = Sheet::decode(&boundary.bytes).err().unwrap_or(0);
         assert_eq!(refusal, boundary.refusal, "{}", boundary.name);
@@ -127,6 +134,42 @@ fn filled_example() {
     assert_eq!(outcome.ties, [1, 1]);
 }
 
+/// The bends from each piece that touches a pixel, rounded.
+fn bends_at(sheet: &Sheet, x: u32, y: u32) -> Vec<[i64; 3]> {
+    bends::exact(sheet, x, y).iter().map(|bend| bend.map(Fraction::rounded)).collect()
+}
+
+/// The lists of bends that the format's description works out: both sides of a diagonal, the middle
+/// of a cell, and the eight pieces about an inner node.
+fn creased_examples() {
+    let flat = [0, 0, 0];
+    let a = square(2, [[1, 0, 0], flat, flat, flat]);
+    assert_eq!(bends_at(&a, 0, 0), [[-6144, 0, -6144]; 2]);
+    assert_eq!(bends_at(&a, 1, 1), [[0, 3072, 0]; 4]);
+    assert_eq!(bends_at(&a, 1, 0), [[0, 0, -3072]]);
+
+    let slope = square(4, [[0, 64, 0], flat, flat, flat]);
+    assert_eq!(bends_at(&slope, 1, 1), [[-2560, 256, -768], [-1792, -512, 0]]);
+
+    let mut draft = Draft::flat(&[0, 2, 6], &[0, 1, 3]);
+    draft.nodes[4] = [0, 64, 0];
+    let top = [[6144, 4096, 0], [8192, 0, 8192], [-4096, 0, -16384], [-3072, 4096, 0]];
+    let bottom = [[8192, 0, 2048], [6144, -2048, 0], [-4096, 0, -4096], [-3072, -2048, 0]];
+    assert_eq!(bends_at(&draft.sheet(), 2, 1), [top, bottom].concat());
+}
+
+/// At every pixel of a small sheet the bend reading is the entry for the right or lower cell and its
+/// lowest piece, and the cells that touch are twice as many for each inner line that it lies on.
+fn reads_beside_creases(sheet: &Sheet) {
+    for (x, y) in pixels::every_up_to(sheet, 2_000).unwrap_or_default() {
+        let cells = bends::from_each_piece(sheet, x, y);
+        assert!(cells[cells.len() - 1][0].bend == sheet.exact(x, y).bend, "the entry that is read");
+        let inner = |lines: &[u32], at: u32| lines[1..lines.len() - 1].contains(&at);
+        let on_lines = [inner(&sheet.x_lines, x), inner(&sheet.y_lines, y)].map(usize::from);
+        assert_eq!(cells.len(), (1 + on_lines[0]) * (1 + on_lines[1]), "the cells that touch");
+    }
+}
+
 /// A line per pixel: x, y and the first readings, `count` numbers in all.
 fn lines(sheet: &Sheet, count: usize) -> String {
     let mut text = String::new();
@@ -153,6 +196,7 @@ fn agrees_with(vector: &Vector) {
         let sheet = decoded.as_ref().expect("a sheet with readings is accepted");
         assert!(lines(sheet, 8) == *expected, "{name} has other readings");
         runs_agree(sheet, &decoded);
+        reads_beside_creases(sheet);
     }
     for (call, refusal) in &vector.calls {
         assert_eq!(call.outcome(&decoded).refusal, *refusal, "{call:?} on {name}");

@@ -15,9 +15,10 @@ const OTHER_NUMBERS: usize = usize::MAX;
 ///
 /// # Safety
 ///
-/// As for the bare call; besides, no pointer is null, and a row may be touched in its whole length.
+/// As for the bare call; besides, no pointer is null, and rows and bends may be touched in their
+/// whole length.
 pub unsafe fn make(call: &Call, places: &Places, by_name: bool) -> usize {
-    let Places { sheet: start, len, values, row: levels } = *places;
+    let Places { sheet: start, len, values, row: levels, bends, pieces } = *places;
     // SAFETY: the caller vouches for what is lent, here and below, and no one else holds it.
     let sheet = unsafe { slice::from_raw_parts(start, len) };
     match *call {
@@ -49,6 +50,16 @@ pub unsafe fn make(call: &Call, places: &Places, by_name: bool) -> usize {
                 *place = *value;
             }
             number(reading.map(drop))
+        }
+        Call::Bends { x, y, places } => {
+            // SAFETY: there are as many places, and they may be touched.
+            let list = unsafe { slice::from_raw_parts_mut(bends, places) };
+            let given = light_sheet::bends(sheet, x, y, list);
+            if let Ok(count) = given {
+                // SAFETY: there is one place.
+                unsafe { pieces.write(count as u32) };
+            }
+            number(given.map(drop))
         }
         Call::FillRun { x, y, count } => {
             // SAFETY: there are as many places, and they may be touched.
