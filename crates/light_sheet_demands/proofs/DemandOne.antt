@@ -10,11 +10,14 @@ use Rattle.sheet_calls.proofs.Lookup.{lookup-laws}
 use Rattle.sheet_calls.proofs.Setting.{setting-laws}
 use Rattle.sheet_slopes.proofs.Laws.{slope-laws}
 use Rattle.surface_of_sheet.proofs.Runs.{run-laws}
+use Rattle.surface_bends.specs.declared.Listed.the-variants.{Refused}
+use Rattle.surface_bends.proofs.Laws.{bend-laws}
 use Rattle.light_sheet_c.proofs.Stored.{over-size, over-behind}
 use Rattle.light_sheet_demands.specs.Demands.{DemandOne}
-use Rattle.light_sheet_demands.proofs.Refusals.{check-gives, lookup-gives, setting-gives, slopes-gives, reading-gives, run-gives}
+use Rattle.light_sheet_demands.proofs.Refusals.{check-gives, lookup-gives, setting-gives, slopes-gives, reading-gives, bends-gives, run-gives}
 use Rattle.light_sheet_demands.proofs.Readings.{refused-reading, no-values, few-words, none-stored}
 use Rattle.light_sheet_demands.proofs.Slopes.{kept}
+use Rattle.light_sheet_demands.proofs.Lists.{refused-list, behind-list, buffer-kept, count-written, count-kept}
 
 pub demand-one : DemandOne
 demand-one = record {
@@ -23,8 +26,10 @@ demand-one = record {
   keptByNode = λ c. c .sheet;
   keptByRead = λ c. c .sheet;
   keptByFillRun = λ c. c .sheet;
+  keptByBends = λ c. c .sheet;
   keptByNodeOffset = λ c. c .sheet;
   keptByReadInto = λ c. c .isRead .sheet;
+  keptByBendsInto = λ c. c .isListed .sheet;
   sheetSize = λ c. rw (c .sheet) (setting-laws .leaves _ _ _ _ .size);
   beforeNode = λ c. rw (c .sheet) (setting-laws .leaves _ _ _ _ .before);
   afterNode = λ c. rw (c .sheet) (setting-laws .leaves _ _ _ _ .after);
@@ -34,6 +39,12 @@ demand-one = record {
   slopesRefused = λ c h. c .sheet ∙ slope-laws .refused _ _ (λ e. h (c .answer ∙ e));
   rowSize = λ c. rw (c .levels) (run-laws .size _ _ _ _);
   rowRefused = λ c h. c .levels ∙ run-laws .refused _ _ _ _ (λ e. h (c .answer ∙ e));
+  bufferSize = λ c. rw (c .list) (bend-laws .buffer _ _ _ _);
+  bufferBehind = behind-list;
+  bufferRefused = buffer-kept;
+  countBuffer = λ c. c .isListed;
+  countWritten = count-written;
+  countRefused = λ c h. (buffer-kept (c .isListed) (λ e. h (c .answer ∙ e)), count-kept c h);
   arraySize = λ c. ap length (c .values) ∙ over-size _ _;
   arrayBehind = λ c k l w. rw (c .values) (over-behind _ _ k (le-trans (few-words (c .isRead)) l) w);
   arrayRefused = λ c h. c .values ∙ none-stored (c .isRead) (λ e. h (c .answer ∙ e));
@@ -43,9 +54,12 @@ demand-one = record {
   slopes = slopes-gives;
   reading = reading-gives;
   arrayReading = λ c. rw (c .answer) (reading-gives (c .isRead));
+  bends = bends-gives;
+  countBends = λ c. rw (c .answer) (bends-gives (c .isListed));
   run = run-gives;
   refusedReading = λ c. refused-reading c;
   noValues = no-values;
+  refusedBends = λ c e h. refused-list c (λ z. h (sym e ∙ z)) ∙ ap Refused e;
   emptyPart = λ c d h.
       let p = subst (Part _ _) (lookup-laws .refused _ _ _ (λ e. h (d .answer ∙ e))) (c .part) in
       (c .part .bytes ∙ lookup-laws .none _ _ _ (λ e. h (d .answer ∙ e)), p .block, omega (arith, p .address));

@@ -7,3 +7,5 @@ pub mod Slopes
 pub mod DemandOne
 pub mod DemandTwo
 pub mod DemandThree
+pub mod Lists
+pub mod Bends

@@ -17,8 +17,10 @@ use Rattle.surface_answers.specs.Answers.{outcome, answered, refused}
 use Rattle.surface_answers.specs.declared.Answer.{Answer}
 use Rattle.surface_of_sheet.specs.Read.{read}
 use Rattle.surface_of_sheet.proofs.Answered.{taken-is, refused-is}
-use Rattle.light_sheet_demands.specs.Contracts.{Check, NodeRefusal, SetNode, FillSlopes, Read, FillRun}
-use Rattle.light_sheet_demands.specs.Demands.{FirstHolds, NoneHolds, Gives, ofCheck, ofLookup, ofSetting, ofSlopes, ofReading, ofRun, AcceptedMeans}
+use Rattle.surface_bends.specs.Bends.{bendsRules, bendsRefusal, tally}
+use Rattle.surface_bends.specs.declared.Listed.{Listed}
+use Rattle.light_sheet_demands.specs.Contracts.{Check, NodeRefusal, SetNode, FillSlopes, Read, ListBends, FillRun}
+use Rattle.light_sheet_demands.specs.Demands.{FirstHolds, NoneHolds, Gives, ofCheck, ofLookup, ofSetting, ofSlopes, ofReading, ofBends, ofRun, AcceptedMeans}
 
 -- ---- the law of rules, in the demands' words
 
@@ -73,6 +75,11 @@ pub reading-gives : {s t : List ℕ} {x y kind : ℕ} {r : Answer} → Read s x 
     Gives ofReading (record { sheet = s; x = x; y = y; kind = kind }) (outcome r .number)
 unfolding nonzero sheetRules readingRules readingRefusal
 reading-gives c = gives _ _ tt (c .answer)
+
+pub bends-gives : {s t : List ℕ} {x y : ℕ} {buffer buffer′ : List ℤ} {r : Listed} → ListBends s x y buffer r buffer′ t →
+    Gives ofBends (record { sheet = s; x = x; y = y; places = length buffer }) (tally r .number)
+unfolding nonzero sheetRules bendsRules bendsRefusal
+bends-gives c = gives _ _ tt (c .answer)
 
 pub run-gives : {s t : List ℕ} {x y n : ℕ} {row row′ : List ℤ} → FillRun s x y row n row′ t →
     Gives ofRun (record { sheet = s; x = x; y = y; count = length row }) n

@@ -14,7 +14,9 @@ use Rattle.surface_answers.specs.Answers.{outcome}
 use Rattle.surface_answers.specs.declared.Answer.{Answer}
 use Rattle.surface_of_sheet.specs.Read.{read}
 use Rattle.surface_of_sheet.specs.Run.{filled}
-use Rattle.light_sheet_c.specs.Values.{bits, over}
+use Rattle.surface_bends.specs.Bends.{bendsRefusal, tally, counted, withBends}
+use Rattle.surface_bends.specs.declared.Listed.{Listed}
+use Rattle.light_sheet_c.specs.Values.{bits, over, countOver}
 
 -- `check` gives n
 pub record Check (s : List ℕ) (n : ℕ) (t : List ℕ) : Type 0 where
@@ -47,13 +49,20 @@ pub record Read (s : List ℕ) (x y kind : ℕ) (r : Answer) (t : List ℕ) : Ty
   pub values : outcome r .values ≡ read s x y kind .values
   pub sheet : t ≡ s
 
+-- `bends` on the buffer gives r, by the answer's definition its number and its count of pieces, and leaves buffer′
+pub record ListBends (s : List ℕ) (x y : ℕ) (buffer : List ℤ) (r : Listed) (buffer′ : List ℤ) (t : List ℕ) : Type 0 where
+  pub answer : tally r .number ≡ bendsRefusal s x y (length buffer)
+  pub pieces : tally r .pieces ≡ counted s x y (length buffer) .pieces
+  pub list : buffer′ ≡ withBends s x y buffer
+  pub sheet : t ≡ s
+
 -- `fill_run` on the row gives n and leaves row′
 pub record FillRun (s : List ℕ) (x y : ℕ) (row : List ℤ) (n : ℕ) (row′ : List ℤ) (t : List ℕ) : Type 0 where
   pub answer : n ≡ runRefusal s x y (length row)
   pub levels : row′ ≡ filled s x y row
   pub sheet : t ≡ s
 
--- the calls for C: five meet the records above, and the two below are theirs alone
+-- the calls for C: five meet the records above, and the three below are theirs alone
 
 -- `lvs_node_offset` gives k
 pub record NodeOffset (s : List ℕ) (i j k : ℕ) (t : List ℕ) : Type 0 where
@@ -66,3 +75,10 @@ pub record ReadInto (s : List ℕ) (x y kind : ℕ) (array : List ℕ) (n : ℕ)
   pub isRead : Read s x y kind reading t
   pub answer : n ≡ outcome reading .number
   pub values : array′ ≡ over (bits (outcome reading .values)) array
+
+-- `lvs_bends` on a lent buffer and a lent count gives n and leaves buffer′ and count′: the list, its number, and, where that is 0, its count of pieces
+pub record BendsInto (s : List ℕ) (x y : ℕ) (buffer : List ℤ) (count n : ℕ) (buffer′ : List ℤ) (count′ : ℕ) (t : List ℕ) : Type 0 where
+  pub listed : Listed
+  pub isListed : ListBends s x y buffer listed buffer′ t
+  pub answer : n ≡ tally listed .number
+  pub pieces : count′ ≡ countOver (tally listed) count

@@ -36,7 +36,10 @@ use Rattle.surface_of_sheet.specs.Place.{cellOf, HasCell, pointAt, place}
 use Rattle.surface_of_sheet.specs.Surface.{nodesOf, setOf}
 use Rattle.surface_of_sheet.specs.Touching.{PlaceLaws}
 use Rattle.surface_of_sheet.specs.Theorems.{HalfUnitsFrom}
-use Rattle.light_sheet_demands.specs.Contracts.{Check, NodeRefusal, NodeCall, SetNode, FillSlopes, Read, FillRun, NodeOffset, ReadInto}
+use Rattle.surface_bends.specs.Bends.{tooFew, BendsInput, tally}
+use Rattle.surface_bends.specs.declared.Listed.{Listed}
+use Rattle.surface_bends.specs.declared.Listed.the-variants as listed
+use Rattle.light_sheet_demands.specs.Contracts.{Check, NodeRefusal, NodeCall, SetNode, FillSlopes, Read, ListBends, FillRun, NodeOffset, ReadInto, BendsInto}
 
 -- ---- demand 1
 
@@ -81,6 +84,10 @@ ofReading = ofSheet (λ u. u .sheet) ++ rule 7 (λ u. outside (u .sheet) (u .x) 
 abbrev pub ofRun : List (Rule RunInput)
 ofRun = ofSheet (λ u. u .sheet) ++ rule 7 (λ u. offMesh (u .sheet) (u .x) (u .y) (u .count)) ∷ rule 8 (λ u. emptyRun (u .count)) ∷ []
 
+-- 02's, of #102
+abbrev pub ofBends : List (Rule BendsInput)
+ofBends = ofSheet (λ u. u .sheet) ++ rule 7 (λ u. outside (u .sheet) (u .x) (u .y)) ∷ rule 14 (λ u. tooFew (u .places)) ∷ []
+
 -- where the node at column i and row j starts, by 01's layout; it has six bytes
 abbrev pub nodeStart : List ℕ → ℕ → ℕ → ℕ
 nodeStart s i j = 8 + 2 * columns s + 2 * rows s + 6 * (j * columns s + i)
@@ -93,11 +100,13 @@ pub record DemandOne : Type 0 where
   pub keptByNode : {s r : RefT (List ℕ)} {t : List ℕ} {i j : ℕ} → NodeCall s i j r t → t ≡ now s
   pub keptByRead : {s t : List ℕ} {x y kind : ℕ} {r : Answer} → Read s x y kind r t → t ≡ s
   pub keptByFillRun : {s t : List ℕ} {x y n : ℕ} {row row′ : List ℤ} → FillRun s x y row n row′ t → t ≡ s
+  pub keptByBends : {s t : List ℕ} {x y : ℕ} {buffer buffer′ : List ℤ} {r : Listed} → ListBends s x y buffer r buffer′ t → t ≡ s
   pub keptByNodeOffset : {s t : List ℕ} {i j k : ℕ} → NodeOffset s i j k t → t ≡ s
   pub keptByReadInto : {s t : List ℕ} {x y kind n : ℕ} {array array′ : List ℕ} → ReadInto s x y kind array n array′ t → t ≡ s
-  -- `set_node` is there to write the six bytes of a node, `fill_slopes` the last four bytes of each, `fill_run` all slots of the row, and `lvs_read` as many of
-  -- the array as the kind has values: one, two or three; refused, none writes. The array is stated as words of 64 bits, so a kept slot keeps every bit, whatever
-  -- it holds, a NaN too
+  pub keptByBendsInto : {s t : List ℕ} {x y count n count′ : ℕ} {buffer buffer′ : List ℤ} → BendsInto s x y buffer count n buffer′ count′ t → t ≡ s
+  -- `set_node` is there to write the six bytes of a node, `fill_slopes` the last four bytes of each, `fill_run` all slots of the row, `bends` three places for
+  -- each piece that it counts, `lvs_bends` these and the count, and `lvs_read` as many of the array as the kind has values: one, two or three; refused, none
+  -- writes. The array is stated as words of 64 bits, so a kept slot keeps every bit, whatever it holds, a NaN too
   pub sheetSize : {s t : List ℕ} {i j n : ℕ} {v : Node} → SetNode s i j v n t → length t ≡ length s
   pub beforeNode : {s t : List ℕ} {i j n : ℕ} {v : Node} → SetNode s i j v n t → (k : ℕ) → k < nodeStart s i j → byteAt t k ≡ byteAt s k
   pub afterNode : {s t : List ℕ} {i j n : ℕ} {v : Node} → SetNode s i j v n t → (k : ℕ) → nodeStart s i j + 6 ≤ k → byteAt t k ≡ byteAt s k
@@ -108,6 +117,17 @@ pub record DemandOne : Type 0 where
   pub slopesRefused : {s t : List ℕ} {k n : ℕ} → FillSlopes s k n t → ¬ (n ≡ 0) → t ≡ s
   pub rowSize : {s t : List ℕ} {x y n : ℕ} {row row′ : List ℤ} → FillRun s x y row n row′ t → length row′ ≡ length row
   pub rowRefused : {s t : List ℕ} {x y n : ℕ} {row row′ : List ℤ} → FillRun s x y row n row′ t → ¬ (n ≡ 0) → row′ ≡ row
+  pub bufferSize : {s t : List ℕ} {x y : ℕ} {buffer buffer′ : List ℤ} {r : Listed} → ListBends s x y buffer r buffer′ t → length buffer′ ≡ length buffer
+  pub bufferBehind : {s t : List ℕ} {x y : ℕ} {buffer buffer′ : List ℤ} {r : Listed} → ListBends s x y buffer r buffer′ t → (k : ℕ) →
+      3 * tally r .pieces ≤ k → (z : ℤ) → getD buffer′ k z ≡ getD buffer k z
+  pub bufferRefused : {s t : List ℕ} {x y : ℕ} {buffer buffer′ : List ℤ} {r : Listed} → ListBends s x y buffer r buffer′ t → ¬ (tally r .number ≡ 0) →
+      buffer′ ≡ buffer
+  pub countBuffer : {s t : List ℕ} {x y count n count′ : ℕ} {buffer buffer′ : List ℤ} (c : BendsInto s x y buffer count n buffer′ count′ t) →
+      ListBends s x y buffer (c .listed) buffer′ t
+  pub countWritten : {s t : List ℕ} {x y count count′ : ℕ} {buffer buffer′ : List ℤ} (c : BendsInto s x y buffer count 0 buffer′ count′ t) →
+      count′ ≡ tally (c .listed) .pieces
+  pub countRefused : {s t : List ℕ} {x y count n count′ : ℕ} {buffer buffer′ : List ℤ} → BendsInto s x y buffer count n buffer′ count′ t → ¬ (n ≡ 0) →
+      (buffer′ ≡ buffer) × (count′ ≡ count)
   pub arraySize : {s t : List ℕ} {x y kind n : ℕ} {array array′ : List ℕ} → ReadInto s x y kind array n array′ t → length array′ ≡ length array
   pub arrayBehind : {s t : List ℕ} {x y kind n : ℕ} {array array′ : List ℕ} → ReadInto s x y kind array n array′ t → (k : ℕ) → kind < k → (w : ℕ) →
       getD array′ k w ≡ getD array k w
@@ -124,11 +144,18 @@ pub record DemandOne : Type 0 where
       Gives ofReading (record { sheet = s; x = x; y = y; kind = kind }) (outcome r .number)
   pub arrayReading : {s t : List ℕ} {x y kind n : ℕ} {array array′ : List ℕ} → ReadInto s x y kind array n array′ t →
       Gives ofReading (record { sheet = s; x = x; y = y; kind = kind }) n
+  pub bends : {s t : List ℕ} {x y : ℕ} {buffer buffer′ : List ℤ} {r : Listed} → ListBends s x y buffer r buffer′ t →
+      Gives ofBends (record { sheet = s; x = x; y = y; places = length buffer }) (tally r .number)
+  pub countBends : {s t : List ℕ} {x y count n count′ : ℕ} {buffer buffer′ : List ℤ} → BendsInto s x y buffer count n buffer′ count′ t →
+      Gives ofBends (record { sheet = s; x = x; y = y; places = length buffer }) n
   pub run : {s t : List ℕ} {x y n : ℕ} {row row′ : List ℤ} → FillRun s x y row n row′ t →
       Gives ofRun (record { sheet = s; x = x; y = y; count = length row }) n
   -- a reading that is refused is `Refused` with its number: it has no values
   pub refusedReading : {s t : List ℕ} {x y kind n : ℕ} {r : Answer} → Read s x y kind r t → outcome r .number ≡ n → ¬ (n ≡ 0) → r ≡ answer.Refused n
   pub noValues : {s t : List ℕ} {x y kind : ℕ} {r : Answer} → Read s x y kind r t → ¬ (outcome r .number ≡ 0) → outcome r .values ≡ []
+  -- and so is a list of bends
+  pub refusedBends : {s t : List ℕ} {x y n : ℕ} {buffer buffer′ : List ℤ} {r : Listed} → ListBends s x y buffer r buffer′ t → tally r .number ≡ n → ¬ (n ≡ 0) →
+      r ≡ listed.Refused n
   -- a lookup that its companion says is refused hands back a part that holds nothing, at the sheet's start; else the node's six bytes, where they lie: in the
   -- sheet's block of memory, at the node's address there
   pub emptyPart : {s r : RefT (List ℕ)} {t t′ : List ℕ} {i j n : ℕ} → NodeCall s i j r t → NodeRefusal (now s) i j n t′ → ¬ (n ≡ 0) →

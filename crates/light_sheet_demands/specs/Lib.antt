@@ -1,3 +1,4 @@
 pub mod Contracts
 pub mod Demands
 pub mod Slopes
+pub mod Bends

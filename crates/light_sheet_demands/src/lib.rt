@@ -3,6 +3,7 @@
 ghost use mathlib.Core.Path.{_≡_};
 ghost use Rattle.light_sheet_demands.specs.Demands.{DemandOne, DemandTwo, DemandThree};
 ghost use Rattle.light_sheet_demands.specs.Slopes.{SlopeFilling};
+ghost use Rattle.light_sheet_demands.specs.Bends.{PieceBends};
 
 pub fn demand_one() -> u64
     ensures { λ r. ⌜ (r ≡ 0) × DemandOne ⌝ }
@@ -24,6 +25,12 @@ pub fn demand_three() -> u64
 
 pub fn slope_filling() -> u64
     ensures { λ r. ⌜ (r ≡ 0) × SlopeFilling ⌝ }
+{
+    0
+}
+
+pub fn piece_bends() -> u64
+    ensures { λ r. ⌜ (r ≡ 0) × PieceBends ⌝ }
 {
     0
 }

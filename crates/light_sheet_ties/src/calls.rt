@@ -1,7 +1,8 @@
 // The public calls, each with its record for a contract.
 ghost use Rattle.sheet_layout.specs.Format.{node};
-ghost use Rattle.light_sheet_demands.specs.Contracts.{Check, NodeRefusal, NodeCall, SetNode, FillSlopes, Read, FillRun};
+ghost use Rattle.light_sheet_demands.specs.Contracts.{Check, NodeRefusal, NodeCall, SetNode, FillSlopes, Read, ListBends, FillRun};
 use surface_answers::Answer;
+use surface_bends::Listed;
 
 pub fn check(sheet: &[u8]) -> u32
     ensures { λ r. ⌜ Check (now (sheet .entry)) r (now (sheet .exit)) ⌝ }
@@ -44,6 +45,12 @@ pub fn read(sheet: &[u8], x: u32, y: u32, kind: u32) -> Answer
     ensures { λ r. ⌜ Read (now (sheet .entry)) x y kind r (now (sheet .exit)) ⌝ }
 {
     light_sheet::read(sheet, x, y, kind)
+}
+
+pub fn bends(sheet: &[u8], x: u32, y: u32, list: &mut [i64]) -> Listed
+    ensures { λ r. ⌜ ListBends (now (sheet .entry)) x y (now (list .entry)) r (now (list .exit)) (now (sheet .exit)) ⌝ }
+{
+    light_sheet::bends(sheet, x, y, list)
 }
 
 pub fn fill_run(sheet: &[u8], x: u32, y: u32, levels: &mut [i32]) -> u32

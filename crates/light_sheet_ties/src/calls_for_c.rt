@@ -1,6 +1,6 @@
 // The calls for C and Rust, each with its record for a contract.
 ghost use Rattle.sheet_layout.specs.Format.{node};
-ghost use Rattle.light_sheet_demands.specs.Contracts.{Check, NodeRefusal, NodeOffset, SetNode, FillSlopes, ReadInto, FillRun};
+ghost use Rattle.light_sheet_demands.specs.Contracts.{Check, NodeRefusal, NodeOffset, SetNode, FillSlopes, ReadInto, BendsInto, FillRun};
 
 pub fn check(sheet: &[u8]) -> u32
     ensures { λ r. ⌜ Check (now (sheet .entry)) r (now (sheet .exit)) ⌝ }
@@ -43,6 +43,12 @@ pub fn read(sheet: &[u8], x: u32, y: u32, kind: u32, values: &mut [u64; 3]) -> u
     ensures { λ r. ⌜ ReadInto (now (sheet .entry)) x y kind (now (values .entry)) r (now (values .exit)) (now (sheet .exit)) ⌝ }
 {
     light_sheet_c::lvs_read(sheet, x, y, kind, values)
+}
+
+pub fn bends(sheet: &[u8], x: u32, y: u32, bends: &mut [i64], pieces: &mut u32) -> u32
+    ensures { λ r. ⌜ BendsInto (now (sheet .entry)) x y (now (bends .entry)) (now (pieces .entry)) r (now (bends .exit)) (now (pieces .exit)) (now (sheet .exit)) ⌝ }
+{
+    light_sheet_c::lvs_bends(sheet, x, y, bends, pieces)
 }
 
 pub fn fill_run(sheet: &[u8], x: u32, y: u32, levels: &mut [i32]) -> u32
