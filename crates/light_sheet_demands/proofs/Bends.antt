@@ -27,7 +27,7 @@ use Rattle.surface_of_sheet.proofs.Places.{place-laws, touch, touched}
 use Rattle.surface_of_sheet.proofs.Touching.{touching as touching-jets}
 use Rattle.surface_bends.specs.Bends.{touching, placeAt, bends, Tally, tally}
 use Rattle.surface_bends.specs.BendLaws.{Before, Among}
-use Rattle.surface_bends.specs.Examples.{fourCells}
+use Rattle.surface_bends.specs.Examples.{unevenMesh}
 use Rattle.surface_bends.specs.declared.Listed.{Listed}
 use Rattle.surface_bends.specs.declared.Listed.the-variants.{Pieces}
 use Rattle.surface_bends.proofs.Examples.{examples}
@@ -131,15 +131,15 @@ module _ {s t : List ℕ} {x y : ℕ} {buffer buffer′ : List ℤ} {r : Listed}
 -- ---- eight pieces
 
 -- the sheet of four cells is taken where its inner lines cross
-crossing : Accepted fourCells × Inside fourCells 7 6 × (24 ≤ 24)
-crossing = bend-laws .taken fourCells 7 6 24 .0 (sym (counted-number fourCells 7 6 24) ∙ ap (λ (l : List Tally). getD l 8 (record { number = 1; pieces = 0 }) .number) (examples .answers))
+crossing : Accepted unevenMesh × Inside unevenMesh 7 6 × (24 ≤ 24)
+crossing = bend-laws .taken unevenMesh 7 6 24 .0 (sym (counted-number unevenMesh 7 6 24) ∙ ap (λ (l : List Tally). getD l 8 (record { number = 1; pieces = 0 }) .number) (examples .answers))
 
 pub piece-bends : PieceBends
 piece-bends = record {
   lists = λ c z. rw (pieces-are c z) (lists-are c z);
   count = λ c z. rw (pieces-are c z) (listed-is c z);
   taken = λ c. rw (c .answer) (bend-laws .taken _ _ _ _);
-  eight = λ l c. listed-is c (c .answer ∙ bend-laws .taken fourCells 7 6 _ .1 (crossing .0, crossing .1, l)) ∙ ap (λ l. Pieces (length l)) (examples .eight);
+  eight = λ l c. listed-is c (c .answer ∙ bend-laws .taken unevenMesh 7 6 _ .1 (crossing .0, crossing .1, l)) ∙ ap (λ l. Pieces (length l)) (examples .eight);
   cells = λ a h.
       let i = place-laws .inside _ _ _ _ a (touch _ _ _ _ h) in
       let column = cell-laws .between _ _ _ _ (x-rising _ a) (i .left) (i .right) (h .has .column) .0 (omega (arith, h .across), h .toRight) in

@@ -21,7 +21,7 @@ use Rattle.surface_of_sheet.specs.Surface.{setOf}
 use Rattle.surface_of_sheet.specs.Touching.{Touches, CellLaws, PlaceLaws}
 use Rattle.surface_bends.specs.Bends.{touching, placeAt, tooFew, tally}
 use Rattle.surface_bends.specs.BendLaws.{Before}
-use Rattle.surface_bends.specs.Examples.{fourCells}
+use Rattle.surface_bends.specs.Examples.{unevenMesh}
 use Rattle.surface_bends.specs.declared.Listed.{Listed}
 use Rattle.surface_bends.specs.declared.Listed.the-variants.{Pieces}
 use Rattle.light_sheet_demands.specs.Contracts.{Read, ListBends}
@@ -92,7 +92,7 @@ pub record PieceBends : Type 0 where
   pub taken : {s t : List ℕ} {x y : ℕ} {buffer buffer′ : List ℤ} {r : Listed} → ListBends s x y buffer r buffer′ t →
       (tally r .number ≡ 0) ↔ (Accepted s × Inside s x y × (24 ≤ length buffer))
   -- there are pixels with eight pieces, as where the inner lines of this sheet of four cells cross
-  pub eight : {t : List ℕ} {buffer buffer′ : List ℤ} {r : Listed} → 24 ≤ length buffer → ListBends fourCells 7 6 buffer r buffer′ t → r ≡ Pieces 8
+  pub eight : {t : List ℕ} {buffer buffer′ : List ℤ} {r : Listed} → 24 ≤ length buffer → ListBends unevenMesh 7 6 buffer r buffer′ t → r ≡ Pieces 8
   -- "Finding a pixel's place must therefore give the lowest and highest cell along each axis": the cells that have the pixel in them lie from the one to the
   -- other, both ways
   pub cells : {s : List ℕ} {x y : ℕ} → Accepted s → {p : Place} → Touches s p x y →

@@ -9,9 +9,9 @@ use Rattle.element_sibson.specs.Element.{+_, −_}
 use Rattle.surface_of_sheet.specs.Place.{seen}
 use Rattle.surface_bends.specs.Bends.{touching, Tally, counted, withBends}
 
--- vertical lines 3, 7 and 15, horizontal lines 0, 6 and 8
-abbrev pub fourCells : List ℕ
-fourCells =
+-- vertical lines 3, 7 and 15, horizontal lines 0, 6 and 8: four cells of four sizes
+abbrev pub unevenMesh : List ℕ
+unevenMesh =
     (0x4C ∷ 0x56 ∷ 0x53 ∷ 1 ∷ 0 ∷ 3 ∷ 3 ∷ 0 ∷ []) ++ (3 ∷ 0 ∷ 7 ∷ 0 ∷ 15 ∷ 0 ∷ 0 ∷ 0 ∷ 6 ∷ 0 ∷ 8 ∷ 0 ∷ []) ++
     (3 ∷ 0 ∷ 5 ∷ 0 ∷ 255 ∷ 255 ∷ 10 ∷ 0 ∷ 5 ∷ 0 ∷ 249 ∷ 255 ∷ 17 ∷ 0 ∷ 5 ∷ 0 ∷ 243 ∷ 255 ∷ []) ++
     (248 ∷ 255 ∷ 5 ∷ 0 ∷ 12 ∷ 0 ∷ 255 ∷ 255 ∷ 252 ∷ 255 ∷ 6 ∷ 0 ∷ 6 ∷ 0 ∷ 243 ∷ 255 ∷ 0 ∷ 0 ∷ []) ++
@@ -64,9 +64,9 @@ examples =
     declined 16 0 23 7 ∷ []
 
 pub record Examples : Type 0 where
-  pub answers : map (λ e. counted fourCells (e .x) (e .y) (length (e .buffer))) examples ≡ map (λ e. e .gives) examples
-  pub buffers : map (λ e. withBends fourCells (e .x) (e .y) (e .buffer)) examples ≡ map (λ e. e .leaves) examples
+  pub answers : map (λ e. counted unevenMesh (e .x) (e .y) (length (e .buffer))) examples ≡ map (λ e. e .gives) examples
+  pub buffers : map (λ e. withBends unevenMesh (e .x) (e .y) (e .buffer)) examples ≡ map (λ e. e .leaves) examples
   -- the eight pieces where two inner lines cross, in order
-  pub eight : touching fourCells 7 6
-      ≡ seen fourCells 0 0 right 7 6 ∷ seen fourCells 0 0 bottom 7 6 ∷ seen fourCells 1 0 bottom 7 6 ∷ seen fourCells 1 0 left 7 6 ∷
-      seen fourCells 0 1 top 7 6 ∷ seen fourCells 0 1 right 7 6 ∷ seen fourCells 1 1 top 7 6 ∷ seen fourCells 1 1 left 7 6 ∷ []
+  pub eight : touching unevenMesh 7 6
+      ≡ seen unevenMesh 0 0 right 7 6 ∷ seen unevenMesh 0 0 bottom 7 6 ∷ seen unevenMesh 1 0 bottom 7 6 ∷ seen unevenMesh 1 0 left 7 6 ∷
+      seen unevenMesh 0 1 top 7 6 ∷ seen unevenMesh 0 1 right 7 6 ∷ seen unevenMesh 1 1 top 7 6 ∷ seen unevenMesh 1 1 left 7 6 ∷ []
