@@ -95,8 +95,8 @@ uint32_t lvs_fill_slopes(uint8_t *sheet, size_t len, uint32_t stiffness);
 uint32_t lvs_read(const uint8_t *sheet, size_t len, uint32_t x, uint32_t y, uint32_t kind, double values[3]);
 
 /* Gives the bend from each piece that touches a pixel of the mesh, since bends jump where pieces meet. The diagonals cut a cell into four pieces: 0 top,
- * 1 right, 2 bottom, 3 left. A piece touches the pixel where its triangle holds it, edges and corners included. One, two, four or eight pieces do: eight at
- * a node inside the mesh.
+ * 1 right, 2 bottom, 3 left. A piece touches the pixel where its triangle holds it, edges and corners included. From one to eight pieces do: one inside a
+ * piece, eight at a node inside the mesh.
  * The list runs by cells, row by row, and in a cell by pieces in order of number. Each piece has three numbers, the bend xx, xy and yy in 1/64 grain per pixel
  * per pixel, rounded as lvs_read rounds it. The bend that lvs_read gives is that of the last cell and its first piece in the list, divided by 4096. Level and
  * tilt are the same from every piece. places is at least LVS_BEND_PLACES, also where fewer are written.

@@ -8,7 +8,7 @@ use Rattle.element_cell.specs.Cell.{pixelCell, pixelPoint}
 use Rattle.element_cell.specs.declared.Pixel.{Pixel}
 use Rattle.element_readings.specs.Reading.{bendsOf}
 
--- from one piece: the bends of its cubic where the piece holds the pixel, else none
+-- from one piece: xx, xy, yy of its cubic, in 1/64 grain per pixel per pixel, where the piece holds the pixel, else none
 unfoldable pub pieceBends : CornerNumbers → Pixel → Piece → List ℤ
 pieceBends n p k = cond (triangle k (pixelPoint p)) (bendsOf (pixelCell p) (sibson n k) (pixelPoint p)) []
 

@@ -21,6 +21,6 @@ over [] array = array
 over (w ∷ words) [] = []
 over (w ∷ words) (a ∷ array) = w ∷ over words array
 
--- the count of pieces; or, of a refusal, the number that was held
+-- the count of pieces; or, of a refusal, what the number held before
 unfoldable pub countOver : Tally → ℕ → ℕ
 countOver t held = cond (eqb (t .number) 0) (t .pieces) held

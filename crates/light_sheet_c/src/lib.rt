@@ -84,8 +84,9 @@ pub extern "C" fn lvs_read(sheet: &[u8], x: u32, y: u32, kind: u32, values: &mut
     slots::store(light_sheet::read(sheet, x, y, kind), values)
 }
 
-// Lists the bend (xx, xy, yy) from each piece that touches the pixel (x, y) in the first places of `bends`, writes how many pieces there are to `pieces`, and
-// answers 0. The places behind the list keep their contents. Refused (1 to 6, 7, 14), it answers the number, and both keep theirs.
+// Lists the bend (xx, xy, yy) from each piece that touches the pixel (x, y) in the first places of `bends`, in 1/64 grain per pixel per pixel: cells row by row,
+// in each the pieces by number. Writes how many pieces there are to `pieces`, and answers 0. The places behind the list keep their contents. Refused (1 to 6, 7,
+// 14), it answers the number, and both keep theirs.
 #[no_mangle]
 pub extern "C" fn lvs_bends(
     sheet: &[u8],

@@ -6,7 +6,7 @@ use native.Mathlib.Decide.{ℕ-discrete}
 use borrow.Author.Tests.{eq-eqb, ne-eqb}
 use lib.IntN.{ℤ}
 use lib.ListN.{length, getD}
-use Rattle.surface_bends.specs.Bends.{touching, bendsRefusal, Tally, tally, counted}
+use Rattle.surface_bends.specs.Bends.{touchingPlaces, bendsRefusal, Tally, tally, counted}
 use Rattle.surface_bends.specs.declared.Listed.{Listed}
 use Rattle.surface_bends.specs.declared.Listed.the-variants.{Pieces, Refused}
 use Rattle.surface_bends.proofs.Laws.{bend-laws}
@@ -41,10 +41,10 @@ module _ {s t : List ℕ} {x y : ℕ} {buffer buffer′ : List ℤ} {r : Listed}
     pub taken : bendsRefusal s x y (length buffer) ≡ 0
     taken = sym (c .answer) ∙ z
 
-    pub pieces-are : tally r .pieces ≡ length (touching s x y)
+    pub pieces-are : tally r .pieces ≡ length (touchingPlaces s x y)
     pieces-are = ap (λ (t : Tally). t .pieces) (tally-is ∙ counted-is s x y (length buffer) taken)
 
-    pub listed-is : r ≡ Pieces (length (touching s x y))
+    pub listed-is : r ≡ Pieces (length (touchingPlaces s x y))
     listed-is = bend-laws .pieces s x y (length buffer) taken r tally-is
 
   pub behind-list : (k : ℕ) → 3 * tally r .pieces ≤ k → (z : ℤ) → getD buffer′ k z ≡ getD buffer k z

@@ -76,7 +76,8 @@ pub record ReadInto (s : List ℕ) (x y kind : ℕ) (array : List ℕ) (n : ℕ)
   pub answer : n ≡ outcome reading .number
   pub values : array′ ≡ over (bits (outcome reading .values)) array
 
--- `lvs_bends` on a lent buffer and a lent count gives n and leaves buffer′ and count′: the list, its number, and, where that is 0, its count of pieces
+-- `lvs_bends` on a lent buffer and a lent count gives n and leaves buffer′ and count′: what `bends` leaves, its refusal's number or 0, and, where 0, its count
+-- of pieces
 pub record BendsInto (s : List ℕ) (x y : ℕ) (buffer : List ℤ) (count n : ℕ) (buffer′ : List ℤ) (count′ : ℕ) (t : List ℕ) : Type 0 where
   pub listed : Listed
   pub isListed : ListBends s x y buffer listed buffer′ t

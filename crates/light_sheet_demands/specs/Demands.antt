@@ -32,7 +32,7 @@ use Rattle.surface_answers.specs.Answers.{Outcome, outcome, Every, divisor, quo
 use Rattle.surface_answers.specs.AnswerLaws.{AnswerLaws, QuotientLaws, _is_}
 use Rattle.surface_answers.specs.declared.Answer.{Answer}
 use Rattle.surface_answers.specs.declared.Answer.the-variants as answer
-use Rattle.surface_of_sheet.specs.Place.{cellOf, HasCell, pointAt, place}
+use Rattle.surface_of_sheet.specs.Place.{cellOf, HasCell, Place, pointAt, place}
 use Rattle.surface_of_sheet.specs.Surface.{nodesOf, setOf}
 use Rattle.surface_of_sheet.specs.Touching.{PlaceLaws}
 use Rattle.surface_of_sheet.specs.Theorems.{HalfUnitsFrom}
@@ -122,11 +122,11 @@ pub record DemandOne : Type 0 where
       3 * tally r .pieces ≤ k → (z : ℤ) → getD buffer′ k z ≡ getD buffer k z
   pub bufferRefused : {s t : List ℕ} {x y : ℕ} {buffer buffer′ : List ℤ} {r : Listed} → ListBends s x y buffer r buffer′ t → ¬ (tally r .number ≡ 0) →
       buffer′ ≡ buffer
-  pub countBuffer : {s t : List ℕ} {x y count n count′ : ℕ} {buffer buffer′ : List ℤ} (c : BendsInto s x y buffer count n buffer′ count′ t) →
+  pub intoBuffer : {s t : List ℕ} {x y count n count′ : ℕ} {buffer buffer′ : List ℤ} (c : BendsInto s x y buffer count n buffer′ count′ t) →
       ListBends s x y buffer (c .listed) buffer′ t
-  pub countWritten : {s t : List ℕ} {x y count count′ : ℕ} {buffer buffer′ : List ℤ} (c : BendsInto s x y buffer count 0 buffer′ count′ t) →
+  pub intoCount : {s t : List ℕ} {x y count count′ : ℕ} {buffer buffer′ : List ℤ} (c : BendsInto s x y buffer count 0 buffer′ count′ t) →
       count′ ≡ tally (c .listed) .pieces
-  pub countRefused : {s t : List ℕ} {x y count n count′ : ℕ} {buffer buffer′ : List ℤ} → BendsInto s x y buffer count n buffer′ count′ t → ¬ (n ≡ 0) →
+  pub intoRefused : {s t : List ℕ} {x y count n count′ : ℕ} {buffer buffer′ : List ℤ} → BendsInto s x y buffer count n buffer′ count′ t → ¬ (n ≡ 0) →
       (buffer′ ≡ buffer) × (count′ ≡ count)
   pub arraySize : {s t : List ℕ} {x y kind n : ℕ} {array array′ : List ℕ} → ReadInto s x y kind array n array′ t → length array′ ≡ length array
   pub arrayBehind : {s t : List ℕ} {x y kind n : ℕ} {array array′ : List ℕ} → ReadInto s x y kind array n array′ t → (k : ℕ) → kind < k → (w : ℕ) →
@@ -146,14 +146,14 @@ pub record DemandOne : Type 0 where
       Gives ofReading (record { sheet = s; x = x; y = y; kind = kind }) n
   pub bends : {s t : List ℕ} {x y : ℕ} {buffer buffer′ : List ℤ} {r : Listed} → ListBends s x y buffer r buffer′ t →
       Gives ofBends (record { sheet = s; x = x; y = y; places = length buffer }) (tally r .number)
-  pub countBends : {s t : List ℕ} {x y count n count′ : ℕ} {buffer buffer′ : List ℤ} → BendsInto s x y buffer count n buffer′ count′ t →
+  pub bendsInto : {s t : List ℕ} {x y count n count′ : ℕ} {buffer buffer′ : List ℤ} → BendsInto s x y buffer count n buffer′ count′ t →
       Gives ofBends (record { sheet = s; x = x; y = y; places = length buffer }) n
   pub run : {s t : List ℕ} {x y n : ℕ} {row row′ : List ℤ} → FillRun s x y row n row′ t →
       Gives ofRun (record { sheet = s; x = x; y = y; count = length row }) n
   -- a reading that is refused is `Refused` with its number: it has no values
   pub refusedReading : {s t : List ℕ} {x y kind n : ℕ} {r : Answer} → Read s x y kind r t → outcome r .number ≡ n → ¬ (n ≡ 0) → r ≡ answer.Refused n
   pub noValues : {s t : List ℕ} {x y kind : ℕ} {r : Answer} → Read s x y kind r t → ¬ (outcome r .number ≡ 0) → outcome r .values ≡ []
-  -- and so is a list of bends
+  -- and `bends`, refused, is `Refused` with its number
   pub refusedBends : {s t : List ℕ} {x y n : ℕ} {buffer buffer′ : List ℤ} {r : Listed} → ListBends s x y buffer r buffer′ t → tally r .number ≡ n → ¬ (n ≡ 0) →
       r ≡ listed.Refused n
   -- a lookup that its companion says is refused hands back a part that holds nothing, at the sheet's start; else the node's six bytes, where they lie: in the
@@ -167,7 +167,7 @@ pub record DemandOne : Type 0 where
   -- in C the part is known by where it starts: 0 exactly where the lookup is refused, for no node starts there
   pub offset : {s t t′ : List ℕ} {i j k n : ℕ} → NodeOffset s i j k t → NodeRefusal s i j n t′ → n ≡ 0 → k ≡ nodeStart s i j
   pub noOffset : {s t t′ : List ℕ} {i j k n : ℕ} → NodeOffset s i j k t → NodeRefusal s i j n t′ → (k ≡ 0) ↔ ¬ (n ≡ 0)
-  -- what each condition says, of the bytes; and which signed number 16 bits are
+  -- what each of 01's conditions says, of the bytes; and which signed number 16 bits are
   pub conditions : ConditionLaws
   pub words : WordLaws
 
@@ -177,13 +177,20 @@ pub record DemandOne : Type 0 where
 abbrev pub cellJet : List ℕ → ℕ → ℕ → Piece → Point → Jet ℚ
 cellJet s i j k P = jet (cellOf s i j) (setOf s i j k) P
 
--- the same at a pixel: in the pixel's cell, on the pixel's piece
-abbrev pub pixelJet : List ℕ → ℕ → ℕ → Jet ℚ
-pixelJet s x y = let p = place s x y in cellJet s (p .column) (p .row) (p .piece) (pointAt s p)
+-- the same at a place, which is a piece of a cell with a pixel's offsets there: height in grains, slopes in grains per pixel
+abbrev pub placeJet : List ℕ → Place → Jet ℚ
+placeJet s p = cellJet s (p .column) (p .row) (p .piece) (pointAt s p)
 
 -- the second derivatives there, in grains per pixel per pixel
+abbrev pub placeBend : List ℕ → Place → Bend
+placeBend s p = bend (cellOf s (p .column) (p .row)) (setOf s (p .column) (p .row) (p .piece)) (pointAt s p)
+
+-- both at a pixel: in the pixel's cell, on the pixel's piece
+abbrev pub pixelJet : List ℕ → ℕ → ℕ → Jet ℚ
+pixelJet s x y = placeJet s (place s x y)
+
 abbrev pub pixelBend : List ℕ → ℕ → ℕ → Bend
-pixelBend s x y = let p = place s x y in bend (cellOf s (p .column) (p .row)) (setOf s (p .column) (p .row) (p .piece)) (pointAt s p)
+pixelBend s x y = placeBend s (place s x y)
 
 -- the sheets that demands 2 and 3 speak of, "accepted when none of the conditions 1 to 6 holds"
 abbrev pub AcceptedMeans : Type 0

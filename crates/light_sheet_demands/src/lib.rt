@@ -3,7 +3,7 @@
 ghost use mathlib.Core.Path.{_≡_};
 ghost use Rattle.light_sheet_demands.specs.Demands.{DemandOne, DemandTwo, DemandThree};
 ghost use Rattle.light_sheet_demands.specs.Slopes.{SlopeFilling};
-ghost use Rattle.light_sheet_demands.specs.Bends.{PieceBends};
+ghost use Rattle.light_sheet_demands.specs.Bends.{BothSides};
 
 pub fn demand_one() -> u64
     ensures { λ r. ⌜ (r ≡ 0) × DemandOne ⌝ }
@@ -29,8 +29,8 @@ pub fn slope_filling() -> u64
     0
 }
 
-pub fn piece_bends() -> u64
-    ensures { λ r. ⌜ (r ≡ 0) × PieceBends ⌝ }
+pub fn both_sides() -> u64
+    ensures { λ r. ⌜ (r ≡ 0) × BothSides ⌝ }
 {
     0
 }

@@ -5,7 +5,7 @@ use mathlib.Core.List.{List}
 use native.Mathlib.Decide.{ℕ-discrete}
 use lib.IntN.{ℤ}
 use lib.ListN.{length}
-use Rattle.surface_bends.specs.Bends.{touching, bendsRefusal, tally, counted, withBends}
+use Rattle.surface_bends.specs.Bends.{touchingPlaces, bendsRefusal, tally, counted, withBends}
 use Rattle.surface_bends.specs.declared.Listed.{Listed}
 use Rattle.surface_bends.specs.declared.Listed.the-variants.{Pieces, Refused}
 use Rattle.surface_bends.proofs.Call.{counted-is, refused-is}
@@ -21,7 +21,7 @@ is-listed e l k = record { answer = ap (λ o. o .number) e ∙ counted-number _ 
 answering : (s : List ℕ) (x y places : ℕ) → (r : Listed) × (tally r ≡ counted s x y places)
 unfolding tally
 answering s x y places = elim (ℕ-discrete (bendsRefusal s x y places) 0) [
-  | yes e ↦ (Pieces (length (touching s x y)), sym (counted-is s x y places e))
+  | yes e ↦ (Pieces (length (touchingPlaces s x y)), sym (counted-is s x y places e))
   | no h ↦ (Refused (bendsRefusal s x y places), sym (refused-is s x y places h))
 ]
 

@@ -1,6 +1,6 @@
 -- The bends from each piece of a cell: of a cell that touches the pixel a piece touches it exactly where its triangle holds it. Assumes nothing.
-use Prim.Native.Nat.{ℕ, suc, _-_}
-use mathlib.Core.Path.{_≡_, refl, _∙_, ap}
+use Prim.Native.Nat.{ℕ}
+use mathlib.Core.Path.{_≡_, refl, _∙_}
 use mathlib.Core.List.{List, [], _∷_, _++_, flatMap}
 use mathlib.Core.Bool.{Bool, true, false, cond}
 use native.Mathlib.Omega.{arith}
@@ -15,7 +15,7 @@ use Rattle.sheet_layout.specs.Format.{columns, rows, lineX, lineY}
 use Rattle.surface_of_sheet.specs.Place.{cellOf, Place, seen, touches}
 use Rattle.surface_of_sheet.specs.Surface.{nodesOf, setOf, bendXXAt, bendXYAt, bendYYAt}
 use Rattle.surface_of_sheet.proofs.Places.{touched, touch}
-use Rattle.surface_places.specs.Found.{Holds, pixelIn}
+use Rattle.surface_places.specs.Found.{CellTouches, pixelIn}
 use Rattle.surface_bends.specs.Bends.{ifTouching, touchingIn, bendsAt}
 use Rattle.surface_bends.proofs.InTurn.{flatMap-append}
 use Rattle.surface_bend_list.specs.Rows.{bendsIn}
@@ -33,7 +33,7 @@ unfolding flatMap
 if-passed f true a = refl
 if-passed f false a = refl
 
-module _ (s : List ℕ) {x y i j : ℕ} (h : Holds (lineX s) (columns s) i x) (k : Holds (lineY s) (rows s) j y) where
+module _ (s : List ℕ) {x y i j : ℕ} (h : CellTouches (lineX s) (columns s) i x) (k : CellTouches (lineY s) (rows s) j y) where
   touches-is : (p : Piece) → touches s (seen s i j p x y) x y ≡ triangle p (pixelPoint (pixelIn s i j x y))
   unfolding pixelIn cellOf
   touches-is p = same-test _ _ (λ t. touched s (seen s i j p x y) x y t .piece) (λ t. touch s (seen s i j p x y) x y (record {

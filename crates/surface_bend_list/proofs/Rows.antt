@@ -3,15 +3,14 @@ use Prim.Native.Nat.{ℕ, zero, suc, _-_, _≤_, _<_}
 use mathlib.Core.Path.{_≡_, refl, sym, _∙_, ap}
 use mathlib.Core.List.{List, [], flatMap}
 use native.Mathlib.Omega.{arith}
-use lib.IntN.{ℤ}
 use Rattle.sheet_layout.specs.Format.{columns, rows, lineX, lineY}
 use Rattle.sheet_calls.specs.Refusals.{Accepted}
 use Rattle.sheet_calls.specs.WellFormed.{Inside}
 use Rattle.surface_of_sheet.specs.Place.{columnsAt, rowsAt}
 use Rattle.surface_of_sheet.proofs.CellsAlong.{cell-laws}
 use Rattle.surface_of_sheet.proofs.Cells.{x-rising, y-rising}
-use Rattle.surface_places.specs.Found.{Holds}
-use Rattle.surface_bends.specs.Bends.{inTurn, touchingIn, touching, bendsAt, bends}
+use Rattle.surface_places.specs.Found.{CellTouches}
+use Rattle.surface_bends.specs.Bends.{inTurn, touchingIn, touchingPlaces, bendsAt, bends}
 use Rattle.surface_bends.proofs.InTurn.{flatMap-append, same-in-turn}
 use Rattle.surface_bends.proofs.Touched.{columns-there, rows-there, none-left, none-right, none-above, none-below}
 use Rattle.surface_bend_list.specs.Rows.{bendsIn, bendsInRow}
@@ -29,18 +28,18 @@ module _ (s : List ℕ) (x y : ℕ) where
 
   -- all rows
   pub rows-are : inTurn (rows s - 1) (bendsInRow s x y) ≡ bends s x y
-  unfolding bends touching
+  unfolding bends touchingPlaces
   rows-are = sym (flatMap-in-turn (bendsAt s) (rows s - 1) _ ∙ same-in-turn _ _ _ (λ j _. row-is j))
 
   module _ (accepted : Accepted s) (inside : Inside s x y) where
     -- from the lowest to the highest, the cells touch the pixel
-    pub column-at : (i : ℕ) → columnsAt s x .lowest ≤ i → i ≤ columnsAt s x .highest → Holds (lineX s) (columns s) i x
+    pub column-at : (i : ℕ) → columnsAt s x .lowest ≤ i → i ≤ columnsAt s x .highest → CellTouches (lineX s) (columns s) i x
     column-at i l h =
         let has = columns-there s accepted x y inside in
         let at = cell-laws .between (lineX s) (columns s) x i (x-rising s accepted) (inside .left) (inside .right) (omega arith) .1 (l, h) in
         record { has = omega arith; starts = at .0; ends = at .1 }
 
-    pub row-at : (j : ℕ) → rowsAt s y .lowest ≤ j → j ≤ rowsAt s y .highest → Holds (lineY s) (rows s) j y
+    pub row-at : (j : ℕ) → rowsAt s y .lowest ≤ j → j ≤ rowsAt s y .highest → CellTouches (lineY s) (rows s) j y
     row-at j l h =
         let has = rows-there s accepted x y inside in
         let at = cell-laws .between (lineY s) (rows s) y j (y-rising s accepted) (inside .top) (inside .bottom) (omega arith) .1 (l, h) in

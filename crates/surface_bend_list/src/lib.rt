@@ -7,7 +7,7 @@ ghost use Rattle.sheet_layout.specs.Format.{columns, rows, lineX, lineY};
 ghost use Rattle.sheet_calls.specs.Refusals.{Accepted};
 ghost use Rattle.sheet_calls.specs.WellFormed.{Inside};
 ghost use Rattle.surface_of_sheet.specs.Place.{columnsAt};
-ghost use Rattle.surface_places.specs.Found.{Holds, cellsOf, found};
+ghost use Rattle.surface_places.specs.Found.{CellTouches, cellsOf, found};
 ghost use Rattle.surface_bends.specs.Bends.{bends, bendsRefusal, tally, counted, withBends};
 ghost use Rattle.surface_bend_list.specs.Rows.{bendsIn, bendsInRow};
 use element_bends::cell_bends;
@@ -78,7 +78,7 @@ fn list_row(
     list: &mut [i64],
     at: usize,
 ) -> usize
-    requires { ⌜ Accepted (now sheet) × Inside (now sheet) x y × (cells ≡ cellsOf (columnsAt (now sheet) x)) × Holds (lineY (now sheet)) (rows (now sheet)) row y ⌝ }
+    requires { ⌜ Accepted (now sheet) × Inside (now sheet) x y × (cells ≡ cellsOf (columnsAt (now sheet) x)) × CellTouches (lineY (now sheet)) (rows (now sheet)) row y ⌝ }
     requires { ⌜ at + length (bendsInRow (now sheet) x y row) ≤ length (now list) ⌝ }
     ensures answer { λ r. ⌜ r ≡ at + length (bendsInRow (now (sheet .entry)) x y row) ⌝ }
     ensures list { λ r. ⌜ now (list .exit) ≡ sets (now (list .entry)) at (bendsInRow (now (sheet .entry)) x y row) ⌝ }
@@ -102,7 +102,7 @@ fn list_cell(
     list: &mut [i64],
     at: usize,
 ) -> usize
-    requires { ⌜ Accepted (now sheet) × Holds (lineX (now sheet)) (columns (now sheet)) column x × Holds (lineY (now sheet)) (rows (now sheet)) row y ⌝ }
+    requires { ⌜ Accepted (now sheet) × CellTouches (lineX (now sheet)) (columns (now sheet)) column x × CellTouches (lineY (now sheet)) (rows (now sheet)) row y ⌝ }
     requires { ⌜ at + length (bendsIn (now sheet) x y row column) ≤ length (now list) ⌝ }
     ensures answer { λ r. ⌜ r ≡ at + length (bendsIn (now (sheet .entry)) x y row column) ⌝ }
     ensures list { λ r. ⌜ now (list .exit) ≡ sets (now (list .entry)) at (bendsIn (now (sheet .entry)) x y row column) ⌝ }

@@ -20,7 +20,7 @@ use Rattle.surface_of_sheet.specs.Touching.{Touches}
 use Rattle.surface_of_sheet.proofs.CellsAlong.{cell-laws}
 use Rattle.surface_of_sheet.proofs.Cells.{sound, x-rising, y-rising}
 use Rattle.surface_of_sheet.proofs.Places.{touched, is-seen, in-piece, offset-across, offset-down}
-use Rattle.surface_bends.specs.Bends.{touching, placeAt}
+use Rattle.surface_bends.specs.Bends.{touchingPlaces, entryPlace}
 use Rattle.surface_bends.proofs.Touched.{column-between, row-between}
 use Rattle.surface_bends.proofs.Listing.{only, once}
 use Rattle.surface_bends.proofs.Counting.{least}
@@ -68,14 +68,14 @@ module _ (s : List ℕ) (x y : ℕ) (accepted : Accepted s) (inside : Inside s x
       let g : k ≡ p .piece = one-piece (pointAt s p) in-cell off off′ k (p .piece) piece (in-piece s x y) in
       rw (e, f, g) refl
 
-  one-place : (k : ℕ) → k < length (touching s x y) → placeAt s x y k ≡ place s x y
-  one-place k h = let t = touched s (placeAt s x y k) x y (only s x y k h) in
+  one-place : (k : ℕ) → k < length (touchingPlaces s x y) → entryPlace s x y k ≡ place s x y
+  one-place k h = let t = touched s (entryPlace s x y k) x y (only s x y k h) in
       subst (λ p. Touches s p x y → p ≡ place s x y) (is-seen t) one-seen t
 
-  pub alone : length (touching s x y) ≡ 1
+  pub alone : length (touchingPlaces s x y) ≡ 1
   alone =
       let some = least s x y accepted inside in
-      elim (decLt 1 (length (touching s x y))) [
+      elim (decLt 1 (length (touchingPlaces s x y))) [
         | no h ↦ omega arith
         | yes h ↦ absurd (let e = once s x y 0 1 (omega arith) h (one-place 0 (omega arith) ∙ sym (one-place 1 h)) in omega arith)
       ]

@@ -8,7 +8,7 @@ use borrow.Author.Tests.{eq-eqb, ne-eqb}
 use lib.IntN.{ℤ}
 use lib.ListN.{length, getD, drop, length-append, length-drop, List·getD-append}
 use lib.Seq.{getD-append-add, getD-drop}
-use Rattle.surface_bends.specs.Bends.{touching, bends, bendsRefusal, Tally, tally, counted, withBends}
+use Rattle.surface_bends.specs.Bends.{touchingPlaces, bends, bendsRefusal, Tally, tally, counted, withBends}
 use Rattle.surface_bends.specs.declared.Listed.{Listed}
 use Rattle.surface_bends.specs.declared.Listed.the-variants.{Pieces, Refused}
 use Rattle.surface_bends.proofs.Chain.{taken}
@@ -29,7 +29,7 @@ told-refused (Pieces k) n h e = absurd (h (sym (ap (λ (t : Tally). t .number) e
 told-refused (Refused m) n h e = ap Refused (ap (λ (t : Tally). t .number) e)
 
 module _ (s : List ℕ) (x y places : ℕ) where
-  pub counted-is : bendsRefusal s x y places ≡ 0 → counted s x y places ≡ record { number = 0; pieces = length (touching s x y) }
+  pub counted-is : bendsRefusal s x y places ≡ 0 → counted s x y places ≡ record { number = 0; pieces = length (touchingPlaces s x y) }
   unfolding counted
   counted-is e = rw (eq-eqb _ 0 e) refl
 
@@ -37,7 +37,7 @@ module _ (s : List ℕ) (x y places : ℕ) where
   unfolding counted
   refused-is h = rw (ne-eqb _ 0 h) refl
 
-  pub pieces : bendsRefusal s x y places ≡ 0 → (r : Listed) → tally r ≡ counted s x y places → r ≡ Pieces (length (touching s x y))
+  pub pieces : bendsRefusal s x y places ≡ 0 → (r : Listed) → tally r ≡ counted s x y places → r ≡ Pieces (length (touchingPlaces s x y))
   pieces e r t = let (a, i, _) = taken s x y places .0 e in told-pieces r _ (least s x y a i) (t ∙ counted-is e)
 
   pub refused : ¬ (bendsRefusal s x y places ≡ 0) → (r : Listed) → tally r ≡ counted s x y places → r ≡ Refused (bendsRefusal s x y places)
@@ -69,7 +69,7 @@ module _ (s : List ℕ) (x y : ℕ) (buffer : List ℤ) where
   pub front : bendsRefusal s x y (length buffer) ≡ 0 → (k : ℕ) → k < length (bends s x y) → (z : ℤ) → getD (withBends s x y buffer) k z ≡ getD (bends s x y) k z
   front e k h z = rw (written-is e) (List·getD-append (bends s x y) _ z k h)
 
-  pub behind : (k : ℕ) → 3 * length (touching s x y) ≤ k → (z : ℤ) → getD (withBends s x y buffer) k z ≡ getD buffer k z
+  pub behind : (k : ℕ) → 3 * length (touchingPlaces s x y) ≤ k → (z : ℤ) → getD (withBends s x y buffer) k z ≡ getD buffer k z
   behind k h z = elim (ℕ-discrete (bendsRefusal s x y (length buffer)) 0) [
     | yes e ↦
         let on : length (bends s x y) + (k - length (bends s x y)) ≡ k = omega (arith, size s x y) in

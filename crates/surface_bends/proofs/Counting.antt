@@ -15,7 +15,7 @@ use Rattle.surface_of_sheet.specs.Touching.{Touches}
 use Rattle.surface_of_sheet.proofs.CellsAlong.{low-below}
 use Rattle.surface_of_sheet.proofs.Cells.{sound, x-rising, y-rising}
 use Rattle.surface_of_sheet.proofs.Places.{place-laws}
-use Rattle.surface_bends.specs.Bends.{inTurn, touchingIn, touching, placeAt}
+use Rattle.surface_bends.specs.Bends.{inTurn, touchingIn, touchingPlaces, entryPlace}
 use Rattle.surface_bends.proofs.InTurn.{most-in-turn}
 use Rattle.surface_bends.proofs.Touched.{columns-there, rows-there, none-left, none-right, none-above, none-below}
 use Rattle.surface_bends.proofs.Listing.{every, only}
@@ -32,8 +32,8 @@ module _ (s : List ℕ) (accepted : Accepted s) (x y : ℕ) (inside : Inside s x
   down = suc (rowsAt s y .highest) - rowsAt s y .lowest
 
   -- as many cells as its columns and rows, with at most c pieces each
-  most-by : (c : ℕ) → ((j i : ℕ) → length (touchingIn s x y j i) ≤ c) → length (touching s x y) ≤ c * across * down
-  unfolding touching
+  most-by : (c : ℕ) → ((j i : ℕ) → length (touchingIn s x y j i) ≤ c) → length (touchingPlaces s x y) ≤ c * across * down
+  unfolding touchingPlaces
   most-by c each =
       most-in-turn (c * across) (rowsAt s y .lowest) (λ j. inTurn (columns s - 1) (touchingIn s x y j)) row (none-above s accepted x y inside _)
       (rowsAt s y .highest) (rows s - 1) (low-below (lineY s) y (rows s - 2)) (omega (arith, rows-there s accepted x y inside)) (none-below s accepted x y inside _)
@@ -53,14 +53,14 @@ module _ (s : List ℕ) (accepted : Accepted s) (x y : ℕ) (inside : Inside s x
   on-edge (inr h) {i} {j} t = inr (down-end s accepted t
       (on-either (y-rising s accepted) (sound s accepted .fewRows) (inside .top) (inside .bottom) h j (t .has .row) (omega (arith, t .down)) (t .toBottom)))
 
-  on-inner : OnInner → length (touching s x y) ≤ 8
+  on-inner : OnInner → length (touchingPlaces s x y) ≤ 8
   on-inner h =
       let wide = near (x-rising s accepted) (sound s accepted .fewColumns) (inside .left) (inside .right) in
       let high = near (y-rising s accepted) (sound s accepted .fewRows) (inside .top) (inside .bottom) in
       let all = most-by 2 (λ j i. two-most s x y j i (λ k t. on-edge h t)) in
       let most = mul-le-mul (mul-le-mul-left 2 wide) high in omega arith
 
-  most-inside : length (touching s x y) ≤ 8
+  most-inside : length (touchingPlaces s x y) ≤ 8
   most-inside = elim (decLt (columnsAt s x .lowest) (columnsAt s x .highest)) [
     | yes h ↦ on-inner (inl h)
     | no h ↦ elim (decLt (rowsAt s y .lowest) (rowsAt s y .highest)) [
@@ -72,11 +72,11 @@ module _ (s : List ℕ) (accepted : Accepted s) (x y : ℕ) (inside : Inside s x
   ]
 
 -- a pixel that a piece touches is one of the mesh
-pub most : (s : List ℕ) (x y : ℕ) → Accepted s → length (touching s x y) ≤ 8
-most s x y accepted = elim (ℕ-discrete (length (touching s x y)) 0) [
+pub most : (s : List ℕ) (x y : ℕ) → Accepted s → length (touchingPlaces s x y) ≤ 8
+most s x y accepted = elim (ℕ-discrete (length (touchingPlaces s x y)) 0) [
   | yes e ↦ omega arith
-  | no h ↦ most-inside s accepted x y (place-laws .inside s (placeAt s x y 0) x y accepted (only s x y 0 (omega arith)))
+  | no h ↦ most-inside s accepted x y (place-laws .inside s (entryPlace s x y 0) x y accepted (only s x y 0 (omega arith)))
 ]
 
-pub least : (s : List ℕ) (x y : ℕ) → Accepted s → Inside s x y → 1 ≤ length (touching s x y)
+pub least : (s : List ℕ) (x y : ℕ) → Accepted s → Inside s x y → 1 ≤ length (touchingPlaces s x y)
 least s x y accepted inside = let p = every s x y (place s x y) (place-laws .there s x y accepted inside) in omega (arith, p .below)

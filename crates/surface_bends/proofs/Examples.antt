@@ -14,9 +14,9 @@ use Rattle.sheet_calls.specs.Rules.{firstRefusal}
 use Rattle.sheet_calls.specs.Refusals.{otherMark, otherVersion, otherCounts, otherLength, wrongStep, wrongLine, wrongLines, wrongNodes, outside, sheetRules}
 use Rattle.surface_of_sheet.specs.Place.{cellOf, touches}
 use Rattle.surface_of_sheet.specs.Surface.{nodeNumbers, nodesOf, setOf, bendXXAt, bendXYAt, bendYYAt}
-use Rattle.surface_bends.specs.Bends.{inTurn, ifTouching, touchingIn, touching, bendsAt, bends, tooFew, bendsRules, bendsRefusal, counted, withBends}
+use Rattle.surface_bends.specs.Bends.{inTurn, ifTouching, touchingIn, touchingPlaces, bendsAt, bends, tooFew, bendsRules, bendsRefusal, counted, withBends}
 use Rattle.surface_bends.specs.Examples.{Examples}
 
 pub examples : Examples
-unfolding flatMap floorDiv round value byR byS bend cornerNumbers inOrder weights weighed halved transposed flipped mirrored swap negateX negateY exchanged topDown leftRight onTop onLeft sibson element side cell bendXXOf bendXYOf bendYYOf rounded signed marked supported countIn decoded heightIn slopeIn nodeIn nodeAt heightAt slopeXAt slopeYAt someNodeOut some firstRefusal otherMark otherVersion otherCounts otherLength wrongStep wrongLine wrongLines wrongNodes outside sheetRules cellOf touches nodeNumbers nodesOf setOf bendXXAt bendXYAt bendYYAt inTurn ifTouching touchingIn touching bendsAt bends tooFew bendsRules bendsRefusal counted withBends
+unfolding flatMap floorDiv round value byR byS bend cornerNumbers inOrder weights weighed halved transposed flipped mirrored swap negateX negateY exchanged topDown leftRight onTop onLeft sibson element side cell bendXXOf bendXYOf bendYYOf rounded signed marked supported countIn decoded heightIn slopeIn nodeIn nodeAt heightAt slopeXAt slopeYAt someNodeOut some firstRefusal otherMark otherVersion otherCounts otherLength wrongStep wrongLine wrongLines wrongNodes outside sheetRules cellOf touches nodeNumbers nodesOf setOf bendXXAt bendXYAt bendYYAt inTurn ifTouching touchingIn touchingPlaces bendsAt bends tooFew bendsRules bendsRefusal counted withBends
 examples = record { answers = refl; buffers = refl; eight = refl }

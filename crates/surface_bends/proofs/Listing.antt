@@ -11,9 +11,9 @@ use lib.ListN.{length}
 use Rattle.element_sibson.specs.Piece.{Piece, top, right, bottom, left, number}
 use Rattle.sheet_layout.specs.Format.{columns, rows}
 use Rattle.sheet_calls.specs.Rules.{Each}
-use Rattle.surface_of_sheet.specs.Place.{Place, place, seen, touches}
+use Rattle.surface_of_sheet.specs.Place.{Place, seen, touches}
 use Rattle.surface_of_sheet.proofs.Places.{touched, is-seen}
-use Rattle.surface_bends.specs.Bends.{inTurn, ifTouching, touchingIn, touching, placeAt}
+use Rattle.surface_bends.specs.Bends.{inTurn, ifTouching, touchingIn, touchingPlaces, nowhere, entryPlace}
 use Rattle.surface_bends.specs.BendLaws.{Before, Among}
 use Rattle.surface_bends.proofs.InTurn.{index-of, at-index, Ordered, ordered-at, in-turn, ordered-in-turn, from-each, into-each, ordered-each}
 
@@ -88,19 +88,19 @@ module _ (s : List ℕ) (x y : ℕ) where
   in-row : {j : ℕ} {p : Place} → List·Memᴰ p (inTurn (columns s - 1) (touchingIn s x y j)) → (i : ℕ) × Own j i p
   in-row {j} m = let (i, h, n) = in-turn (columns s - 1) (touchingIn s x y j) .0 m in (i, own n)
 
-  all-ordered : Ordered Before (touching s x y)
-  unfolding touching Before
+  all-ordered : Ordered Before (touchingPlaces s x y)
+  unfolding touchingPlaces Before
   all-ordered = ordered-in-turn Before (rows s - 1) (λ j. inTurn (columns s - 1) (touchingIn s x y j)) row-ordered
       (λ j k p q h m n. rw (in-row m .1 .is, in-row n .1 .is) (inl h))
 
-  from-list : {p : Place} → List·Memᴰ p (touching s x y) → T (touches s p x y)
-  unfolding touching
+  from-list : {p : Place} → List·Memᴰ p (touchingPlaces s x y) → T (touches s p x y)
+  unfolding touchingPlaces
   from-list m =
       let (j, h, n) = in-turn (rows s - 1) (λ j. inTurn (columns s - 1) (touchingIn s x y j)) .0 m in
       let o = in-row n .1 in rw (o .is) (o .touching)
 
-  into-list : {p : Place} → T (touches s p x y) → List·Memᴰ p (touching s x y)
-  unfolding touching touchingIn ifTouching
+  into-list : {p : Place} → T (touches s p x y) → List·Memᴰ p (touchingPlaces s x y)
+  unfolding touchingPlaces touchingIn ifTouching
   into-list {p} t =
       let h = touched s p x y t in let e = is-seen h in
       let here : T (touches s (seen s (p .column) (p .row) (p .piece) x y) x y) = rw e t in
@@ -117,13 +117,13 @@ module _ (s : List ℕ) (x y : ℕ) where
   -- ---- the laws
 
   pub every : (p : Place) → T (touches s p x y) → Among s x y p
-  every p t = let (k, h, e) = index-of (place s x y) (into-list t) in record { index = k; below = h; there = e }
+  every p t = let (k, h, e) = index-of (nowhere s x y) (into-list t) in record { index = k; below = h; there = e }
 
-  pub only : (k : ℕ) → k < length (touching s x y) → T (touches s (placeAt s x y k) x y)
-  only k h = from-list (at-index (touching s x y) k (place s x y) h)
+  pub only : (k : ℕ) → k < length (touchingPlaces s x y) → T (touches s (entryPlace s x y k) x y)
+  only k h = from-list (at-index (touchingPlaces s x y) k (nowhere s x y) h)
 
-  pub ordered : (k m : ℕ) → k < m → m < length (touching s x y) → Before (placeAt s x y k) (placeAt s x y m)
-  ordered = ordered-at Before (touching s x y) (place s x y) all-ordered
+  pub ordered : (k m : ℕ) → k < m → m < length (touchingPlaces s x y) → Before (entryPlace s x y k) (entryPlace s x y m)
+  ordered = ordered-at Before (touchingPlaces s x y) (nowhere s x y) all-ordered
 
   irreflexive : (p : Place) → ¬ Before p p
   unfolding Before
@@ -131,7 +131,7 @@ module _ (s : List ℕ) (x y : ℕ) where
   irreflexive p (inr (e, inl h)) = omega arith
   irreflexive p (inr (e, inr (f, h))) = omega arith
 
-  pub once : (k m : ℕ) → k < length (touching s x y) → m < length (touching s x y) → placeAt s x y k ≡ placeAt s x y m → k ≡ m
+  pub once : (k m : ℕ) → k < length (touchingPlaces s x y) → m < length (touchingPlaces s x y) → entryPlace s x y k ≡ entryPlace s x y m → k ≡ m
   once k m l n e = elim (decLt k m) [
     | yes h ↦ absurd (irreflexive _ (rw e at (ordered k m h n)))
     | no d ↦ elim (decLt m k) [ yes h ↦ absurd (irreflexive _ (rw e at (ordered m k h l))) | no f ↦ omega arith ]

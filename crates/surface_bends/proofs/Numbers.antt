@@ -7,8 +7,8 @@ use lib.IntN.{ℤ, pos}
 use lib.ListN.{length, getD, List·getD-append}
 use lib.Seq.{getD-append-add}
 use Rattle.sheet_calls.specs.Refusals.{Accepted}
-use Rattle.surface_of_sheet.specs.Place.{Place, place}
-use Rattle.surface_bends.specs.Bends.{touching, placeAt, bendsAt, bends}
+use Rattle.surface_of_sheet.specs.Place.{Place}
+use Rattle.surface_bends.specs.Bends.{touchingPlaces, nowhere, entryPlace, bendsAt, bends}
 use Rattle.surface_bends.proofs.Counting.{most}
 
 module _ (s : List ℕ) where
@@ -28,14 +28,14 @@ module _ (s : List ℕ) where
       rw same (getD-append-add (bendsAt s p) (flatMap (bendsAt s) l) (3 * k + m) z ∙ at-place l k m (3 * k + m) d z (omega (arith, h)) b refl)
 
 module _ (s : List ℕ) (x y : ℕ) where
-  pub size : length (bends s x y) ≡ 3 * length (touching s x y)
+  pub size : length (bends s x y) ≡ 3 * length (touchingPlaces s x y)
   unfolding bends
-  size = three-each s (touching s x y)
+  size = three-each s (touchingPlaces s x y)
 
   pub few : Accepted s → length (bends s x y) ≤ 24
   few accepted = omega (arith, size, most s x y accepted)
 
-  pub number-at : (k m n : ℕ) → k < length (touching s x y) → m < 3 → 3 * k + m ≡ n →
-      getD (bends s x y) n (pos 0) ≡ getD (bendsAt s (placeAt s x y k)) m (pos 0)
+  pub number-at : (k m n : ℕ) → k < length (touchingPlaces s x y) → m < 3 → 3 * k + m ≡ n →
+      getD (bends s x y) n (pos 0) ≡ getD (bendsAt s (entryPlace s x y k)) m (pos 0)
   unfolding bends
-  number-at k m n h b e = at-place s (touching s x y) k m n (place s x y) (pos 0) h b e
+  number-at k m n h b e = at-place s (touchingPlaces s x y) k m n (nowhere s x y) (pos 0) h b e

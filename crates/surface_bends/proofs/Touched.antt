@@ -14,7 +14,7 @@ use Rattle.surface_of_sheet.proofs.Along.{axis-cell}
 use Rattle.surface_of_sheet.proofs.CellsAlong.{cell-laws}
 use Rattle.surface_of_sheet.proofs.Cells.{sound, x-rising, y-rising}
 use Rattle.surface_of_sheet.proofs.Places.{touched}
-use Rattle.surface_bends.specs.Bends.{inTurn, ifTouching, touchingIn, touching}
+use Rattle.surface_bends.specs.Bends.{inTurn, ifTouching, touchingIn, touchingPlaces}
 use Rattle.surface_bends.proofs.InTurn.{none-in-turn, no-more-in-turn, same-in-turn}
 
 module _ (s : List ℕ) (x y j i : ℕ) where
@@ -64,6 +64,6 @@ module _ (s : List ℕ) (accepted : Accepted s) (x y : ℕ) (inside : Inside s x
   pub row-is : (j : ℕ) → inTurn (columns s - 1) (touchingIn s x y j) ≡ inTurn (suc (columnsAt s x .highest)) (touchingIn s x y j)
   row-is j = no-more-in-turn _ _ _ (omega (arith, columns-there)) (λ i h _. none-right j i h)
 
-  pub touching-is : touching s x y ≡ inTurn (suc (rowsAt s y .highest)) (λ j. inTurn (suc (columnsAt s x .highest)) (touchingIn s x y j))
-  unfolding touching
+  pub touching-is : touchingPlaces s x y ≡ inTurn (suc (rowsAt s y .highest)) (λ j. inTurn (suc (columnsAt s x .highest)) (touchingIn s x y j))
+  unfolding touchingPlaces
   touching-is = no-more-in-turn _ _ _ (omega (arith, rows-there)) (λ j h _. none-below _ j h) ∙ same-in-turn _ _ _ (λ j _. row-is j)

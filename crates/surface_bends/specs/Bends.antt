@@ -9,7 +9,7 @@ use Rattle.element_sibson.specs.Piece.{top, right, bottom, left}
 use Rattle.sheet_layout.specs.Format.{columns, rows}
 use Rattle.sheet_calls.specs.Rules.{Rule, rule, firstRefusal}
 use Rattle.sheet_calls.specs.Refusals.{outside, sheetRules}
-use Rattle.surface_of_sheet.specs.Place.{Place, place, seen, touches}
+use Rattle.surface_of_sheet.specs.Place.{Place, seen, touches}
 use Rattle.surface_of_sheet.specs.Surface.{bendXXAt, bendXYAt, bendYYAt}
 use Rattle.surface_bends.specs.declared.Listed.{Listed}
 use Rattle.surface_bends.specs.declared.Listed.the-variants.{Pieces, Refused}
@@ -21,31 +21,35 @@ unfoldable pub inTurn : {A : Type 0} → ℕ → (ℕ → List A) → List A
 inTurn zero f = []
 inTurn (suc n) f = inTurn n f ++ f n
 
--- a place, where it touches pixel (x, y)
+-- the place alone, if it touches pixel (x, y), else nothing
 unfoldable pub ifTouching : List ℕ → ℕ → ℕ → Place → List Place
 ifTouching s x y p = cond (touches s p x y) (p ∷ []) []
 
--- in the cell in column i and row j the pieces by number, the pixel seen from each
+-- in the cell in row j and column i the places that touch it, by piece number. Left of a cell, or above it, the offset is 0, and `touches` fails
 unfoldable pub touchingIn : List ℕ → ℕ → ℕ → ℕ → ℕ → List Place
 touchingIn s x y j i = flatMap (λ k. ifTouching s x y (seen s i j k x y)) (top ∷ right ∷ bottom ∷ left ∷ [])
 
--- in all cells, row by row
-unfoldable pub touching : List ℕ → ℕ → ℕ → List Place
-touching s x y = inTurn (rows s - 1) (λ j. inTurn (columns s - 1) (touchingIn s x y j))
+-- in all cells, row by row; a sheet has one cell fewer than lines, each way
+unfoldable pub touchingPlaces : List ℕ → ℕ → ℕ → List Place
+touchingPlaces s x y = inTurn (rows s - 1) (λ j. inTurn (columns s - 1) (touchingIn s x y j))
 
--- number k of them, from 0; past the end, the place that is read
-abbrev pub placeAt : List ℕ → ℕ → ℕ → ℕ → Place
-placeAt s x y k = getD (touching s x y) k (place s x y)
+-- a place in no cell of the sheet
+abbrev pub nowhere : List ℕ → ℕ → ℕ → Place
+nowhere s x y = seen s (columns s) (rows s) top x y
+
+-- the place that entry k of the list is from, counted from 0; past the end, nowhere
+abbrev pub entryPlace : List ℕ → ℕ → ℕ → ℕ → Place
+entryPlace s x y k = getD (touchingPlaces s x y) k (nowhere s x y)
 
 -- ---- the list
 
--- the bend at a place: xx, xy, yy, the whole numbers before a reading's division
+-- the bend at a place: xx, xy, yy in 1/64 grain per pixel per pixel, the whole numbers before a reading's division
 unfoldable pub bendsAt : List ℕ → Place → List ℤ
 bendsAt s p = bendXXAt s p ∷ bendXYAt s p ∷ bendYYAt s p ∷ []
 
 -- from each piece that touches the pixel
 unfoldable pub bends : List ℕ → ℕ → ℕ → List ℤ
-bends s x y = flatMap (bendsAt s) (touching s x y)
+bends s x y = flatMap (bendsAt s) (touchingPlaces s x y)
 
 -- ---- when the call is refused
 
@@ -68,7 +72,8 @@ bendsRefusal s x y places = firstRefusal bendsRules (record { sheet = s; x = x; 
 
 -- ---- what it answers
 
--- the refusal's number, or 0, and how many pieces are listed, none where it is refused
+-- the refusal's number, or 0, and how many pieces are listed, none where it is refused. They tell the answers of the call apart: of a call that is not refused
+-- there is a piece
 pub record Tally : Type 0 where
   pub number : ℕ
   pub pieces : ℕ
@@ -77,9 +82,10 @@ unfoldable pub tally : Listed → Tally
 tally (Pieces k) = record { number = 0; pieces = k }
 tally (Refused n) = record { number = n; pieces = 0 }
 
+-- the call's
 unfoldable pub counted : List ℕ → ℕ → ℕ → ℕ → Tally
 counted s x y places = let n = bendsRefusal s x y places in
-    cond (eqb n 0) (record { number = 0; pieces = length (touching s x y) }) (record { number = n; pieces = 0 })
+    cond (eqb n 0) (record { number = 0; pieces = length (touchingPlaces s x y) }) (record { number = n; pieces = 0 })
 
 -- ---- what it leaves
 

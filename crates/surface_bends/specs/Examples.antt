@@ -7,7 +7,7 @@ use lib.ListN.{length, replicate}
 use Rattle.element_sibson.specs.Piece.{top, right, bottom, left}
 use Rattle.element_sibson.specs.Element.{+_, −_}
 use Rattle.surface_of_sheet.specs.Place.{seen}
-use Rattle.surface_bends.specs.Bends.{touching, Tally, counted, withBends}
+use Rattle.surface_bends.specs.Bends.{touchingPlaces, Tally, counted, withBends}
 
 -- vertical lines 3, 7 and 15, horizontal lines 0, 6 and 8: four cells of four sizes
 abbrev pub unevenMesh : List ℕ
@@ -67,6 +67,6 @@ pub record Examples : Type 0 where
   pub answers : map (λ e. counted unevenMesh (e .x) (e .y) (length (e .buffer))) examples ≡ map (λ e. e .gives) examples
   pub buffers : map (λ e. withBends unevenMesh (e .x) (e .y) (e .buffer)) examples ≡ map (λ e. e .leaves) examples
   -- the eight pieces where two inner lines cross, in order
-  pub eight : touching unevenMesh 7 6
+  pub eight : touchingPlaces unevenMesh 7 6
       ≡ seen unevenMesh 0 0 right 7 6 ∷ seen unevenMesh 0 0 bottom 7 6 ∷ seen unevenMesh 1 0 bottom 7 6 ∷ seen unevenMesh 1 0 left 7 6 ∷
       seen unevenMesh 0 1 top 7 6 ∷ seen unevenMesh 0 1 right 7 6 ∷ seen unevenMesh 1 1 top 7 6 ∷ seen unevenMesh 1 1 left 7 6 ∷ []

@@ -1,4 +1,5 @@
--- Where a pixel lies: the cell along each axis, the offsets in the cell, the piece (01, "Four pieces of a cell"). Assumes nothing.
+-- Where a pixel lies: the lowest and the highest cell along each axis, and in the one that is read the offsets and the piece (01, "Four pieces of a cell").
+-- Assumes nothing.
 use Prim.Native.Nat.{ℕ, zero, suc, _+_, _-_, _<_}
 use mathlib.Core.List.{List}
 use mathlib.Core.Bool.{Bool, _&&_, cond}
@@ -39,7 +40,7 @@ pointAt s p = pixel (cellAt s p) (p .a) (p .b)
 
 -- ---- the cells of a pixel
 
--- of the cells 0 to k along an axis, the highest that touches a position: the last that starts at or before it
+-- of the cells 0 to k along an axis, the highest that touches a position: the last that starts at or before it, or the first of all
 unfoldable pub highestAlong : (ℕ → ℕ) → ℕ → ℕ → ℕ
 highestAlong line zero position = zero
 highestAlong line (suc k) position = cond (leb (line (suc k)) position) (suc k) (highestAlong line k position)
@@ -57,7 +58,7 @@ pub record Cells : Type 0 where
 abbrev pub cellsAlong : (ℕ → ℕ) → ℕ → ℕ → Cells
 cellsAlong line k position = record { lowest = lowestAlong line k position; highest = highestAlong line k position }
 
--- a pixel's columns and rows
+-- a pixel's columns and rows: of n lines the last cell is number n − 2
 abbrev pub columnsAt : List ℕ → ℕ → Cells
 columnsAt s x = cellsAlong (lineX s) (columns s - 2) x
 

@@ -15,7 +15,7 @@ use Rattle.element_cell.specs.Pieces.{named}
 use Rattle.element_cell.specs.declared.Pixel.{Pixel}
 use Rattle.surface_of_sheet.specs.Place.{cellOf, columnAt, rowAt, place}
 use Rattle.surface_of_sheet.proofs.Cells.{gap-side, sound}
-use Rattle.surface_places.specs.Found.{Mesh, Between, Holds, offAxis, found, pixelIn, holding}
+use Rattle.surface_places.specs.Found.{Mesh, Between, CellTouches, offAxis, found, pixelIn, holding}
 use Rattle.surface_places.proofs.Search.{highest-holds}
 
 -- a pixel lies outside the mesh where it is off one of the axes
@@ -51,7 +51,7 @@ module _ (s : List ℕ) (x y : ℕ) (inside : Inside s x y) where
   y-between = record { first = inside .top; last = inside .bottom }
 
 -- a pixel in a cell that touches it
-pub pixel-inside : {s : List ℕ} {i j x y : ℕ} → Mesh s → Holds (lineX s) (columns s) i x → Holds (lineY s) (rows s) j y → PixelInCell (pixelIn s i j x y)
+pub pixel-inside : {s : List ℕ} {i j x y : ℕ} → Mesh s → CellTouches (lineX s) (columns s) i x → CellTouches (lineY s) (rows s) j y → PixelInCell (pixelIn s i j x y)
 unfolding pixelIn
 pixel-inside m h k = record {
   width = gap-side (m .across .rising) _ (h .has);
@@ -62,10 +62,10 @@ pixel-inside m h k = record {
 
 -- the highest cells touch the pixel
 module _ {s : List ℕ} {x y : ℕ} (m : Mesh s) (inside : Inside s x y) where
-  pub column-holds : Holds (lineX s) (columns s) (found s x y .columns .highest) x
+  pub column-holds : CellTouches (lineX s) (columns s) (found s x y .columns .highest) x
   unfolding found
   column-holds = highest-holds s xLinesOffset (columns s) x (m .across) (x-between s x y inside)
 
-  pub row-holds : Holds (lineY s) (rows s) (found s x y .rows .highest) y
+  pub row-holds : CellTouches (lineY s) (rows s) (found s x y .rows .highest) y
   unfolding found
   row-holds = highest-holds s (yLinesOffset s) (rows s) y (m .down) (y-between s x y inside)

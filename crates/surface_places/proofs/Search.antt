@@ -9,8 +9,7 @@ use Rattle.sheet_layout.specs.Format.{lineFrom}
 use Rattle.surface_of_sheet.specs.Place.{lowestAlong, highestAlong, cellsAlong}
 use Rattle.surface_of_sheet.proofs.Along.{along-starts, along-last, rise, axis-cell, axis-ends}
 use Rattle.surface_of_sheet.proofs.CellsAlong.{low-below, low-last, cell-laws}
-use Rattle.surface_places.specs.declared.Cells.{Cells}
-use Rattle.surface_places.specs.Found.{Axis, Between, Holds, cellsOf}
+use Rattle.surface_places.specs.Found.{Axis, Between, CellTouches, cellsOf}
 
 -- the line in the middle, where one is left between low and high
 pub middle-between : (low high : ℕ) → low + 1 < high → (low < (low + high) / 2) × ((low + high) / 2 < high)
@@ -29,7 +28,7 @@ module _ (s : List ℕ) (start lines position : ℕ) where
 
   module _ (axis : Axis s start lines) (between : Between (lineFrom s start) lines position) where
     -- it touches the position
-    pub highest-holds : Holds (lineFrom s start) lines cellOn position
+    pub highest-holds : CellTouches (lineFrom s start) lines cellOn position
     highest-holds = record {
       has = axis-cell (lineFrom s start) (axis .few) position;
       starts = along-starts (lineFrom s start) position (lines - 2) (between .first);

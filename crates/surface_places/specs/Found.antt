@@ -37,7 +37,7 @@ unfoldable pub offAxis : (ℕ → ℕ) → ℕ → ℕ → Bool
 offAxis line lines position = ltb position (line 0) || ltb (line (lines - 1)) position
 
 -- cell i along an axis of n lines touches a position: it is one of the axis's, and has the position between its lines, or on one
-pub record Holds (line : ℕ → ℕ) (n i position : ℕ) : Type 0 where
+pub record CellTouches (line : ℕ → ℕ) (n i position : ℕ) : Type 0 where
   pub has : suc i < n
   pub starts : line i ≤ position
   pub ends : position ≤ line (suc i)

@@ -6,7 +6,7 @@ ghost use Rattle.sheet_layout.specs.Format.{columns, rows, lineFrom, lineX, lin
 ghost use Rattle.sheet_calls.specs.Refusals.{outside};
 ghost use Rattle.sheet_calls.specs.WellFormed.{Inside};
 ghost use Rattle.surface_of_sheet.specs.Place.{cellsAlong, highestAlong, place};
-ghost use Rattle.surface_places.specs.Found.{Axis, Mesh, Between, Holds, offAxis, cellsOf, found, inCell, pixelIn, holding};
+ghost use Rattle.surface_places.specs.Found.{Axis, Mesh, Between, CellTouches, offAxis, cellsOf, found, inCell, pixelIn, holding};
 use element_cell::Piece;
 use element_cell::Pixel;
 use element_cell::piece_at;
@@ -28,7 +28,7 @@ pub struct Found {
     pub rows: Cells,
 }
 
-// A cell that touches a pixel by its column and row, the pixel in that cell, and a piece of it.
+// A cell, by its column and row, that touches a pixel; the pixel in that cell; and a piece of it.
 pub struct Place {
     pub column: usize,
     pub row: usize,
@@ -63,7 +63,7 @@ pub fn find(sheet: &[u8], x: u32, y: u32) -> Found
     }
 }
 
-// The place that a pixel is read at: in the cell furthest to the right and below of those that touch it, on the lowest piece.
+// The place that a pixel is read at: in the cell furthest to the right and below of those that touch it, on its piece with the lowest number.
 pub fn read_place(sheet: &[u8], cells: Found, x: u32, y: u32) -> Place
     requires { ⌜ Mesh (now sheet) × Inside (now sheet) x y × (cells ≡ found (now sheet) x y) ⌝ }
     ensures { λ r. ⌜ r ≡ holding (now (sheet .entry)) (place (now (sheet .entry)) x y) ⌝ }
@@ -81,7 +81,7 @@ pub fn read_place(sheet: &[u8], cells: Found, x: u32, y: u32) -> Place
 
 // A pixel in a cell that touches it.
 pub fn pixel_in(sheet: &[u8], column: usize, row: usize, x: u32, y: u32) -> Pixel
-    requires { ⌜ Mesh (now sheet) × Holds (lineX (now sheet)) (columns (now sheet)) column x × Holds (lineY (now sheet)) (rows (now sheet)) row y ⌝ }
+    requires { ⌜ Mesh (now sheet) × CellTouches (lineX (now sheet)) (columns (now sheet)) column x × CellTouches (lineY (now sheet)) (rows (now sheet)) row y ⌝ }
     ensures { λ r. ⌜ r ≡ pixelIn (now (sheet .entry)) column row x y ⌝ }
 {
     let across = in_cell(sheet, X_LINES_OFFSET, column, x);

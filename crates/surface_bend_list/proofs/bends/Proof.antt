@@ -12,7 +12,7 @@ use lib.Seq.{sets, sets-eq}
 use Rattle.sheet_calls.specs.Refusals.{Accepted}
 use Rattle.sheet_calls.specs.WellFormed.{Inside}
 use Rattle.surface_places.proofs.Axes.{mesh}
-use Rattle.surface_bends.specs.Bends.{touching, bends, bendsRefusal, tally}
+use Rattle.surface_bends.specs.Bends.{touchingPlaces, bends, bendsRefusal, tally}
 use Rattle.surface_bends.proofs.Chain.{taken}
 use Rattle.surface_bends.proofs.Numbers.{size, few}
 use Rattle.surface_bends.proofs.Call.{counted-is, refused-is, written-is, untouched}
@@ -35,7 +35,7 @@ module _ (c : tie.Else1) where
   right = taken _ _ _ _ .0 done
 
 -- three numbers a piece
-third : (c : tie.After-list-rows) → let a = s (c .before .before .before) .args in c .list-rows .result / 3 ≡ length (touching (now (a .sheet)) (a .x) (a .y))
+third : (c : tie.After-list-rows) → let a = s (c .before .before .before) .args in c .list-rows .result / 3 ≡ length (touchingPlaces (now (a .sheet)) (a .x) (a .y))
 third c = let a = s (c .before .before .before) .args in omega (arith, c .list-rows .ensures .0, size (now (a .sheet)) (a .x) (a .y))
 
 returns : tie.Need-returns

@@ -4,7 +4,6 @@ use Prim.Native.Nat.{suc, _-_, _≤_, _<_}
 use mathlib.Core.Path.{_≡_}
 use native.Mathlib.Numerals.{add-one}
 use native.Mathlib.Omega.{arith}
-use borrow.Author.Needs.{needs}
 use Rattle.sheet_layout.specs.Format.{columns, lineX}
 use Rattle.surface_of_sheet.specs.Place.{columnsAt}
 use Rattle.surface_of_sheet.proofs.Cells.{sound}

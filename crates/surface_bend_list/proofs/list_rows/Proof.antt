@@ -4,7 +4,6 @@ use Prim.Native.Nat.{suc, _+_, _-_, _≤_, _<_}
 use mathlib.Core.Path.{_≡_, ap}
 use native.Mathlib.Numerals.{add-one}
 use native.Mathlib.Omega.{arith}
-use borrow.Author.Needs.{needs}
 use lib.ListN.{length}
 use Rattle.sheet_layout.specs.Format.{rows, lineY}
 use Rattle.surface_of_sheet.proofs.Cells.{sound}

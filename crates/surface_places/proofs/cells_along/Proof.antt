@@ -2,14 +2,14 @@
 use denote.Ref.{now}
 use native.Mathlib.Omega.{arith}
 use borrow.Author.Needs.{needs}
-use Rattle.surface_places.specs.Found.{Holds}
+use Rattle.surface_places.specs.Found.{CellTouches}
 use Rattle.sheet_layout.specs.Format.{lineFrom}
 use Rattle.surface_places.proofs.Search.{cellOn, highest-holds, two-cells, one-cell}
 use Rattle.surface_places.proofs.cells_along.Statement.{statement}
 use Rattle.surface_places.proofs.cells_along.Tie as tie
 
 -- the cell that is found touches the position
-holds : (c : tie.After-highest-along) → let a = c .before .before .args in Holds (lineFrom (now (a .sheet)) (a .start)) (a .lines) (cellOn (now (a .sheet)) (a .start) (a .lines) (a .position)) (a .position)
+holds : (c : tie.After-highest-along) → let a = c .before .before .args in CellTouches (lineFrom (now (a .sheet)) (a .start)) (a .lines) (cellOn (now (a .sheet)) (a .start) (a .lines) (a .position)) (a .position)
 holds c = let s = c .before .before in highest-holds _ _ _ _ (s .pre .0) (s .pre .1)
 
 line-from-requires : tie.Need-line-from-requires

@@ -1,6 +1,6 @@
 -- `surface_places::in_cell` meets its contract. Assumes nothing.
 use denote.Ref.{now}
-use Prim.Native.Nat.{suc, _≤_}
+use Prim.Native.Nat.{suc}
 use mathlib.Core.Path.{_≡_, refl, _∙_, ap}
 use native.Mathlib.Nat.{le-trans}
 use native.Mathlib.Numerals.{add-one}
