@@ -23,10 +23,7 @@ pub unsafe fn make(call: &Call, places: &Places, by_name: bool) -> usize {
     let sheet = unsafe { slice::from_raw_parts(start, len) };
     match *call {
         Call::Check => number(light_sheet::check(sheet)),
-        Call::NodeRefusal { column, row } => match light_sheet::node_numbers(sheet, column, row) {
-            Ok(node) if Some(node) != decoded(sheet, column, row) => OTHER_NUMBERS,
-            answer => number(answer.map(drop)),
-        },
+        Call::NodeRefusal { column, row } => look_up(sheet, column, row),
         Call::NodeOffset { column, row } => match light_sheet::node(sheet, column, row) {
             Ok(bytes) => bytes.as_ptr() as usize - start as usize,
             Err(_) => 0,
@@ -45,27 +42,29 @@ pub unsafe fn make(call: &Call, places: &Places, by_name: bool) -> usize {
         Call::Read { x, y, kind } => {
             let reading = read(sheet, x, y, kind, by_name);
             // SAFETY: there are three places.
-            let places = unsafe { &mut *values };
-            for (place, value) in places.iter_mut().zip(numbers(&reading)) {
-                *place = *value;
-            }
+            store(&reading, unsafe { &mut *values });
             number(reading.map(drop))
         }
-        Call::Bends { x, y, places } => {
+        Call::Bends { x, y, places: count } => {
             // SAFETY: there are as many places, and they may be touched.
-            let list = unsafe { slice::from_raw_parts_mut(bends, places) };
+            let list = unsafe { slice::from_raw_parts_mut(bends, count) };
             let given = light_sheet::bends(sheet, x, y, list);
-            if let Ok(count) = given {
-                // SAFETY: there is one place.
-                unsafe { pieces.write(count as u32) };
-            }
-            number(given.map(drop))
+            // SAFETY: there is one place.
+            number(given.map(|count| unsafe { pieces.write(count as u32) }))
         }
         Call::FillRun { x, y, count } => {
             // SAFETY: there are as many places, and they may be touched.
             let levels = unsafe { slice::from_raw_parts_mut(levels, count) };
             number(light_sheet::fill_run(sheet, x, y, levels))
         }
+    }
+}
+
+/// Looks up a node's numbers, and compares them with those that the sheet holds.
+fn look_up(sheet: &[u8], column: u32, row: u32) -> usize {
+    match light_sheet::node_numbers(sheet, column, row) {
+        Ok(node) if Some(node) != decoded(sheet, column, row) => OTHER_NUMBERS,
+        answer => number(answer.map(drop)),
     }
 }
 
@@ -91,6 +90,13 @@ fn read(sheet: &[u8], x: u32, y: u32, kind: u32, by_name: bool) -> Result<Readin
         light_sheet::TILT if by_name => light_sheet::tilt(sheet, x, y).map(Reading::Tilt),
         light_sheet::BEND if by_name => light_sheet::bend(sheet, x, y).map(Reading::Bend),
         _ => light_sheet::read(sheet, x, y, kind),
+    }
+}
+
+/// Puts the values of a reading in the first places.
+fn store(reading: &Result<Reading, Refusal>, places: &mut [f64; 3]) {
+    for (place, value) in places.iter_mut().zip(numbers(reading)) {
+        *place = *value;
     }
 }
 
