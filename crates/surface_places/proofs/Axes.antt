@@ -13,15 +13,29 @@ use Rattle.element_sibson.specs.Piece.{pieceAt}
 use Rattle.element_cell.specs.Cell.{pixelPoint, PixelInCell}
 use Rattle.element_cell.specs.Pieces.{named}
 use Rattle.element_cell.specs.declared.Pixel.{Pixel}
-use Rattle.surface_of_sheet.specs.Place.{cellOf, columnAt, rowAt, place}
+use Rattle.surface_of_sheet.specs.Place.{cellOf, cellsAlong, columnAt, rowAt, place}
 use Rattle.surface_of_sheet.proofs.Cells.{gap-side, sound}
-use Rattle.surface_places.specs.Found.{Mesh, Between, CellTouches, offAxis, found, pixelIn, holding}
+use Rattle.surface_places.specs.Found.{Mesh, Between, CellTouches, offAxis, cellsOf, found, inCell, pixelIn, holding}
 use Rattle.surface_places.proofs.Search.{highest-holds}
 
 -- a pixel lies outside the mesh where it is off one of the axes
 pub off-either : (s : List ℕ) (x y : ℕ) → offAxis (lineFrom s xLinesOffset) (columns s) x || offAxis (lineFrom s (yLinesOffset s)) (rows s) y ≡ outside s x y
 unfolding offAxis outside
 off-either s x y = sym (or-assoc (ltb x (lineX s 0) || ltb (lineX s (columns s - 1)) x) (ltb y (lineY s 0)) (ltb (lineY s (rows s - 1)) y))
+
+-- the cells of a pixel, along each axis
+pub found-is : (s : List ℕ) (x y : ℕ) →
+    record { columns = cellsOf (cellsAlong (lineFrom s xLinesOffset) (columns s - 2) x); rows = cellsOf (cellsAlong (lineFrom s (yLinesOffset s)) (rows s - 2) y) }
+    ≡ found s x y
+unfolding found
+found-is s x y = refl
+
+-- a pixel in a cell, along each axis
+pub pixel-is : (s : List ℕ) (i j x y : ℕ) →
+    let across = inCell (lineFrom s xLinesOffset) i x in let down = inCell (lineFrom s (yLinesOffset s)) j y in
+    record { a = across .offset; b = down .offset; width = across .size; height = down .size } ≡ pixelIn s i j x y
+unfolding inCell pixelIn
+pixel-is s i j x y = refl
 
 -- the place of a pixel, by its highest cells and the pixel in that cell
 abbrev pub pixelAt : List ℕ → ℕ → ℕ → Pixel

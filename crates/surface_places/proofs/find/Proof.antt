@@ -1,7 +1,5 @@
 -- `surface_places::find` meets its contract. Assumes nothing.
-use mathlib.Core.Path.{refl}
-use Rattle.surface_places.specs.Found.{found}
-use Rattle.surface_places.proofs.Axes.{header-read, x-between, y-between}
+use Rattle.surface_places.proofs.Axes.{found-is, header-read, x-between, y-between}
 use Rattle.surface_places.proofs.find.Statement.{statement}
 use Rattle.surface_places.proofs.find.Tie as tie
 
@@ -14,12 +12,12 @@ cells-along-requires-2 c κs =
     rw (c .rows .ensures .0, c .before .y-lines-offset .ensures .0) (p .0 .down, y-between _ _ _ (p .1))
 
 returns : tie.Need-returns
-unfolding found
 returns c =
     let r = c .before in
     let y = r .before in
     let x = y .before in
-    rw (c .cells-along2 .ensures, r .rows .ensures .0, y .y-lines-offset .ensures .0, x .cells-along .ensures, x .before .columns .ensures .0) refl
+    rw (c .cells-along2 .ensures, r .rows .ensures .0, y .y-lines-offset .ensures .0, x .cells-along .ensures, x .before .columns .ensures .0)
+    (found-is _ _ _)
 
 pub find-spec : {M : Type 1} → statement M
 find-spec =
