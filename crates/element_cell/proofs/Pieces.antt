@@ -1,20 +1,18 @@
 -- The pieces that hold a pixel, and the one that it is read from, by products of its offsets and its cell's sides. Assumes nothing.
 use mathlib.Core.Path.{_≡_, refl, sym, _∙_}
-use mathlib.Core.Logic.{_↔_}
 use mathlib.Core.Bool.{Bool, true, false, _&&_, cond}
 use mathlib.Core.List.{List, [], _∷_}
 use Prim.Native.Nat.{ℕ, _+_, _*_, _≤_, _<_}
 use native.Mathlib.Nat.{le-of-lt, le-trans, mul-le-mul}
 use borrow.Author.Tests.{le-leb, lt-leb}
-use lib.Dec.{T, leb, leb→le, le→leb}
+use lib.Dec.{T, leb}
 use lib.IntN.{ℤ, pos}
 use lib.Signed.{leZ, leZ-yes}
 use Rattle.integers.proofs.Polynomial.{Expr, var, #_, _⊕_, _⊗_, eval}
 use Rattle.integers.proofs.Solve.{_≼_}
-use Rattle.integers.proofs.Deduce.{_·_, certified, certified-sound, both}
+use Rattle.integers.proofs.Deduce.{_·_, certified, certified-sound}
 use Rattle.element_sibson.specs.Cubic.{Cell, pixel}
 use Rattle.element_sibson.specs.Piece.{Piece, top, right, bottom, left, triangle, pieceAt}
-use Rattle.element_sibson.proofs.Finite.{and}
 use Rattle.element_sibson.proofs.Quote.{Quotient, wholeₑ, complementₑ, _÷ₑ_, _≤ₑ_}
 use Rattle.element_cell.specs.Cell.{pixelCell, pixelPoint, PixelInCell, cell}
 use Rattle.element_cell.proofs.Sides.{side-is}
@@ -22,29 +20,15 @@ use Rattle.element_cell.specs.declared.Pixel.{Pixel}
 
 -- ---- the inequalities of the triangles, multiplied by the cell's area: of x = r W H, y = s W H and q = W H
 
--- whether they hold, and that they do
+-- whether they hold
 abbrev pub between : Piece → ℕ → ℕ → ℕ → Bool
 between top x y q = leb y x && leb (x + y) q
 between right x y q = leb y x && leb q (x + y)
 between bottom x y q = leb x y && leb q (x + y)
 between left x y q = leb x y && leb (x + y) q
 
-abbrev pub Between : Piece → ℕ → ℕ → ℕ → Type 0
-Between top x y q = (y ≤ x) × (x + y ≤ q)
-Between right x y q = (y ≤ x) × (q ≤ x + y)
-Between bottom x y q = (x ≤ y) × (q ≤ x + y)
-Between left x y q = (x ≤ y) × (x + y ≤ q)
-
-two : (k l m n : ℕ) → T (leb k l && leb m n) ↔ ((k ≤ l) × (m ≤ n))
-two k l m n = (λ t. let (a, b) = both (leb k l) (leb m n) t in (leb→le k l a, leb→le m n b), λ h. and (leb k l) (leb m n) (le→leb k l (h .0)) (le→leb m n (h .1)))
-
-tested : (k : Piece) (x y q : ℕ) → T (between k x y q) ↔ Between k x y q
-tested top x y q = two y x (x + y) q
-tested right x y q = two y x q (x + y)
-tested bottom x y q = two x y q (x + y)
-tested left x y q = two x y (x + y) q
-
-same-test : (a b : Bool) → (T a → T b) → (T b → T a) → a ≡ b
+-- two tests that hold together are one
+pub same-test : (a b : Bool) → (T a → T b) → (T b → T a) → a ≡ b
 same-test true true f g = refl
 same-test true false f g = absurd (f tt)
 same-test false true f g = absurd (g tt)
@@ -77,14 +61,11 @@ module _ (C : Cell) (a b : ℕ) where
   same u v m n f g = same-test _ _
       (λ t. certified-sound ((# 1 · (u ≤ₑ v)) ∷ []) (m ≼ n) f ρ (leZ-yes t) .le) (λ t. certified-sound ((# 1 · (m ≼ n)) ∷ []) (u ≤ₑ v) g ρ (leZ-yes t) .le)
 
-  pub triangle-is : (k : Piece) → triangle k (pixel C a b) ≡ between k (a * C .H .number) (b * C .W .number) (C .W .number * C .H .number)
+  triangle-is : (k : Piece) → triangle k (pixel C a b) ≡ between k (a * C .H .number) (b * C .W .number) (C .W .number * C .H .number)
   triangle-is top = λ t. same sₑ rₑ yₑ xₑ tt tt t && same sₑ (complementₑ rₑ) (xₑ ⊕ yₑ) qₑ tt tt t
   triangle-is right = λ t. same sₑ rₑ yₑ xₑ tt tt t && same (complementₑ sₑ) rₑ qₑ (xₑ ⊕ yₑ) tt tt t
   triangle-is bottom = λ t. same rₑ sₑ xₑ yₑ tt tt t && same (complementₑ rₑ) sₑ qₑ (xₑ ⊕ yₑ) tt tt t
   triangle-is left = λ t. same rₑ sₑ xₑ yₑ tt tt t && same rₑ (complementₑ sₑ) (xₑ ⊕ yₑ) qₑ tt tt t
-
-  pub in-triangle : (k : Piece) → T (triangle k (pixel C a b)) ↔ Between k (a * C .H .number) (b * C .W .number) (C .W .number * C .H .number)
-  in-triangle k = rw (triangle-is k) (tested k _ _ _)
 
 -- ---- a pixel as the code holds it
 

@@ -4,11 +4,11 @@ use mathlib.Core.Path.{_≡_, refl, _∙_}
 use mathlib.Core.List.{List, [], _∷_, _++_, flatMap}
 use mathlib.Core.Bool.{Bool, true, false, cond}
 use native.Mathlib.Omega.{arith}
-use lib.Dec.{T}
 use lib.IntN.{ℤ}
 use Rattle.element_sibson.specs.Piece.{Piece, top, right, bottom, left, triangle}
 use Rattle.element_sibson.specs.Element.{cornerNumbers, element}
 use Rattle.element_cell.specs.Cell.{pixelPoint}
+use Rattle.element_cell.proofs.Pieces.{same-test}
 use Rattle.element_readings.specs.Reading.{bendsOf}
 use Rattle.element_bends.specs.PieceBends.{pieceBends, cellBends}
 use Rattle.sheet_layout.specs.Format.{columns, rows, lineX, lineY}
@@ -19,13 +19,6 @@ use Rattle.surface_places.specs.Found.{CellTouches, pixelIn}
 use Rattle.surface_bends.specs.Bends.{ifTouching, touchingIn, bendsAt}
 use Rattle.surface_bends.proofs.InTurn.{flatMap-append}
 use Rattle.surface_bend_list.specs.Rows.{bendsIn}
-
--- two tests that hold together are one
-same-test : (a b : Bool) → (T a → T b) → (T b → T a) → a ≡ b
-same-test true true to from = refl
-same-test true false to from = absurd (to tt)
-same-test false true to from = absurd (from tt)
-same-test false false to from = refl
 
 -- a list for the one element that passes a test
 if-passed : {A : Type 0} (f : A → List ℤ) (b : Bool) (a : A) → flatMap f (cond b (a ∷ []) []) ≡ cond b (flatMap f (a ∷ [])) []

@@ -1,4 +1,4 @@
--- How many pieces touch a pixel: at most eight; on the mesh at least one, and that one alone where the pixel lies inside a piece. Assumes nothing.
+-- How many pieces touch a pixel: at most eight, and on the mesh at least one. Assumes nothing.
 use Prim.Native.Nat.{ℕ, suc, _*_, _-_, _≤_, _<_}
 use mathlib.Core.Logic.{_⊎_, inl, inr}
 use mathlib.Core.List.{List}

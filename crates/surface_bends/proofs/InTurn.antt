@@ -33,7 +33,7 @@ module _ {A : Type 0} where
   ordered-at R (a ∷ l) d o zero (suc m) h below = o .0 _ (at-index l m d (omega (arith, below)))
   ordered-at R (a ∷ l) d o (suc k) (suc m) h below = ordered-at R l d (o .1) k m (omega (arith, h)) (omega (arith, below))
 
-  pub ordered-append : (R : A → A → Type 0) (l r : List A) → Ordered R l → Ordered R r → ((a b : A) → List·Memᴰ a l → List·Memᴰ b r → R a b) → Ordered R (l ++ r)
+  ordered-append : (R : A → A → Type 0) (l r : List A) → Ordered R l → Ordered R r → ((a b : A) → List·Memᴰ a l → List·Memᴰ b r → R a b) → Ordered R (l ++ r)
   ordered-append R [] r o p across = p
   ordered-append R (a ∷ l) r o p across = (
     λ b m. elim (List·Memᴰ·append-cases l m) [ inl h ↦ o .0 b h | inr h ↦ across a b (List·Memᴰ·head refl) h ],
@@ -59,7 +59,7 @@ module _ {A : Type 0} where
   -- ---- how long they are
 
   -- the first m are what all n start with
-  pub first-in-turn : (m n : ℕ) (f : ℕ → List A) → m ≤ n → (rest : List A) × (inTurn n f ≡ inTurn m f ++ rest)
+  first-in-turn : (m n : ℕ) (f : ℕ → List A) → m ≤ n → (rest : List A) × (inTurn n f ≡ inTurn m f ++ rest)
   unfolding inTurn
   first-in-turn m zero f h = let same : m ≡ 0 = omega arith in ([], rw same refl)
   first-in-turn m (suc n) f h = elim (ℕ-discrete m (suc n)) [

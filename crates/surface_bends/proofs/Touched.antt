@@ -1,6 +1,6 @@
 -- What a cell lists of the pieces that touch a pixel: nothing, unless it lies from the lowest to the highest of the pixel's columns and rows. Assumes nothing.
-use Prim.Native.Nat.{ℕ, suc, _-_, _≤_, _<_}
-use mathlib.Core.Path.{_≡_, refl, _∙_}
+use Prim.Native.Nat.{ℕ, suc, _≤_, _<_}
+use mathlib.Core.Path.{_≡_, refl}
 use mathlib.Core.List.{List, [], flatMap}
 use native.Mathlib.Omega.{arith}
 use Rattle.integers.proofs.Order.{cond-ind}
@@ -14,12 +14,12 @@ use Rattle.surface_of_sheet.proofs.Along.{axis-cell}
 use Rattle.surface_of_sheet.proofs.CellsAlong.{cell-laws}
 use Rattle.surface_of_sheet.proofs.Cells.{sound, x-rising, y-rising}
 use Rattle.surface_of_sheet.proofs.Places.{touched}
-use Rattle.surface_bends.specs.Bends.{inTurn, ifTouching, touchingIn, touchingPlaces}
-use Rattle.surface_bends.proofs.InTurn.{none-in-turn, no-more-in-turn, same-in-turn}
+use Rattle.surface_bends.specs.Bends.{inTurn, ifTouching, touchingIn}
+use Rattle.surface_bends.proofs.InTurn.{none-in-turn}
 
 module _ (s : List ℕ) (x y j i : ℕ) where
   -- a cell of which no piece touches the pixel
-  pub none-in : ((k : Piece) → ¬ Touches s (seen s i j k x y) x y) → touchingIn s x y j i ≡ []
+  none-in : ((k : Piece) → ¬ Touches s (seen s i j k x y) x y) → touchingIn s x y j i ≡ []
   unfolding touchingIn ifTouching flatMap
   none-in untouched = rw (none top, none right, none bottom, none left) refl
     where
@@ -58,12 +58,3 @@ module _ (s : List ℕ) (accepted : Accepted s) (x y : ℕ) (inside : Inside s x
 
   pub none-below : (n j : ℕ) → rowsAt s y .highest < j → inTurn n (touchingIn s x y j) ≡ []
   none-below n j h = none-in-turn n _ (λ i _. none-in s x y j i (λ k t. omega (arith, h, row-between t)))
-
-  -- ---- so the list is that of the rows and columns up to the highest
-
-  pub row-is : (j : ℕ) → inTurn (columns s - 1) (touchingIn s x y j) ≡ inTurn (suc (columnsAt s x .highest)) (touchingIn s x y j)
-  row-is j = no-more-in-turn _ _ _ (omega (arith, columns-there)) (λ i h _. none-right j i h)
-
-  pub touching-is : touchingPlaces s x y ≡ inTurn (suc (rowsAt s y .highest)) (λ j. inTurn (suc (columnsAt s x .highest)) (touchingIn s x y j))
-  unfolding touchingPlaces
-  touching-is = no-more-in-turn _ _ _ (omega (arith, rows-there)) (λ j h _. none-below _ j h) ∙ same-in-turn _ _ _ (λ j _. row-is j)

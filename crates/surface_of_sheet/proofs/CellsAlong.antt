@@ -76,7 +76,7 @@ module _ {line : ℕ → ℕ} {n : ℕ} (r : Rising line n) where
         let least = along-least line position (n - 2) in
         let starts = along-starts line position (n - 2) h in let up = rise r i high m (omega arith) in omega arith
 
-    pub same-elsewhere : ((k : ℕ) → suc (suc k) < n → ¬ (position ≡ line (suc k))) → low ≡ high
+    same-elsewhere : ((k : ℕ) → suc (suc k) < n → ¬ (position ≡ line (suc k))) → low ≡ high
     same-elsewhere off =
         let below = low-below line position (n - 2) in let least = along-least line position (n - 2) in
         elim (decLt low high) [

@@ -9,7 +9,7 @@ use borrow.Author.Needs.{needs}
 use borrow.Author.Tests.{ne-eqb}
 use Rattle.surface_bends.specs.Bends.{bendsRefusal, Tally, tally, counted}
 use Rattle.surface_bends.specs.declared.Listed.{Listed}
-use Rattle.surface_bends.specs.declared.Listed.the-variants.{Pieces, Refused}
+use Rattle.surface_bends.specs.declared.Listed.the-variants.{Refused}
 use Rattle.surface_bends.proofs.Laws.{bend-laws}
 use Rattle.surface_bends.proofs.Call.{refused-is}
 use Rattle.light_sheet_c.specs.Values.{countOver}
