@@ -24,7 +24,8 @@ use Rattle.surface_of_sheet.proofs.Places.{place-laws, touch, touched}
 use Rattle.surface_of_sheet.proofs.Touching.{touching as touching-jets}
 use Rattle.surface_bends.specs.Bends.{touchingPlaces, entryPlace, bends, bendsRefusal, Tally, tally}
 use Rattle.surface_bends.specs.BendLaws.{Before, Among}
-use Rattle.surface_bends.specs.Examples.{unevenMesh, sevens}
+use Rattle.surface_bends.specs.UnevenMesh.{unevenMesh}
+use Rattle.surface_of_sheet.specs.Examples.{sevens}
 use Rattle.surface_bends.specs.Examples.{examples as table}
 use Rattle.surface_bends.specs.declared.Listed.{Listed}
 use Rattle.surface_bends.specs.declared.Listed.the-variants.{Pieces}

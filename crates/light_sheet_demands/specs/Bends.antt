@@ -20,7 +20,7 @@ use Rattle.surface_of_sheet.specs.Place.{HasCell, Place, pointAt, columnsAt, ro
 use Rattle.surface_of_sheet.specs.Touching.{Touches, CellLaws, PlaceLaws}
 use Rattle.surface_bends.specs.Bends.{entryPlace, bends, tooFew, tally}
 use Rattle.surface_bends.specs.BendLaws.{Before}
-use Rattle.surface_bends.specs.Examples.{unevenMesh}
+use Rattle.surface_bends.specs.UnevenMesh.{unevenMesh}
 use Rattle.surface_bends.specs.declared.Listed.{Listed}
 use Rattle.surface_bends.specs.declared.Listed.the-variants.{Pieces, Refused}
 use Rattle.light_sheet_demands.specs.Contracts.{Read, ListBends, BendsInto}

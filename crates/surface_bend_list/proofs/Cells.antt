@@ -13,7 +13,7 @@ use Rattle.element_readings.specs.Reading.{bendsOf}
 use Rattle.element_bends.specs.PieceBends.{pieceBends, cellBends}
 use Rattle.sheet_layout.specs.Format.{columns, rows, lineX, lineY}
 use Rattle.surface_of_sheet.specs.Place.{cellOf, Place, seen, touches}
-use Rattle.surface_of_sheet.specs.Surface.{nodesOf, setOf, bendXXAt, bendXYAt, bendYYAt}
+use Rattle.surface_of_sheet.specs.Surface.{nodesOf, setOf}
 use Rattle.surface_of_sheet.proofs.Places.{touched, touch}
 use Rattle.surface_places.specs.Found.{CellTouches, pixelIn}
 use Rattle.surface_bends.specs.Bends.{ifTouching, touchingIn, bendsAt}
@@ -40,7 +40,7 @@ module _ (s : List ℕ) {x y i j : ℕ} (h : CellTouches (lineX s) (columns s) i
 
   -- from one piece
   piece-is : (p : Piece) → flatMap (bendsAt s) (ifTouching s x y (seen s i j p x y)) ≡ pieceBends (cornerNumbers (cellOf s i j) (nodesOf s i j)) (pixelIn s i j x y) p
-  unfolding ifTouching pieceBends flatMap bendsAt bendXXAt bendXYAt bendYYAt bendsOf pixelIn cellOf setOf element
+  unfolding ifTouching pieceBends flatMap bendsAt bendsOf pixelIn cellOf setOf element
   piece-is p = if-passed (bendsAt s) (touches s (seen s i j p x y) x y) _ ∙ rw (touches-is p) refl
 
   -- from all four

@@ -2,6 +2,8 @@
 use mathlib.Core.Path.{refl}
 use native.Mathlib.Omega.{arith}
 use native.Mathlib.Nat.{add-zero}
+use Rattle.element_readings.specs.Reading.{bendsOf}
+use Rattle.surface_of_sheet.specs.Surface.{bendXXAt, bendXYAt, bendYYAt}
 use Rattle.surface_bends.specs.Bends.{bendsAt, tally}
 use Rattle.surface_bends.specs.BendLaws.{TouchingLaws, BendLaws}
 use Rattle.surface_bends.proofs.Listing.{every, only, ordered, once}
@@ -15,7 +17,7 @@ pub touching-laws : TouchingLaws
 touching-laws = record { every = every; only = only; ordered = ordered; once = once; most = most; least = least; alone = alone }
 
 pub bend-laws : BendLaws
-unfolding bendsAt tally
+unfolding bendsAt bendsOf bendXXAt bendXYAt bendYYAt tally
 bend-laws = record {
   size = size;
   few = few;

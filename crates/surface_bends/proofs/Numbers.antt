@@ -6,6 +6,7 @@ use native.Mathlib.Omega.{arith}
 use lib.IntN.{ℤ, pos}
 use lib.ListN.{length, getD, List·getD-append}
 use lib.Seq.{getD-append-add}
+use Rattle.element_readings.specs.Reading.{bendsOf}
 use Rattle.sheet_calls.specs.Refusals.{Accepted}
 use Rattle.surface_of_sheet.specs.Place.{Place}
 use Rattle.surface_bends.specs.Bends.{touchingPlaces, nowhere, entryPlace, bendsAt, bends}
@@ -13,14 +14,14 @@ use Rattle.surface_bends.proofs.Counting.{most}
 
 module _ (s : List ℕ) where
   three-each : (l : List Place) → length (flatMap (bendsAt s) l) ≡ 3 * length l
-  unfolding flatMap bendsAt
+  unfolding flatMap bendsAt bendsOf
   three-each [] = refl
   three-each (p ∷ l) = let rest = three-each l in omega arith
 
   -- number m of place k
   at-place : (l : List Place) (k m n : ℕ) (d : Place) (z : ℤ) → k < length l → m < 3 → 3 * k + m ≡ n →
       getD (flatMap (bendsAt s) l) n z ≡ getD (bendsAt s (getD l k d)) m z
-  unfolding flatMap bendsAt
+  unfolding flatMap bendsAt bendsOf
   at-place [] k m n d z h b e = absurd (omega arith)
   at-place (p ∷ l) zero m n d z h b e = let same : n ≡ m = omega arith in rw same (List·getD-append (bendsAt s p) (flatMap (bendsAt s) l) z m b)
   at-place (p ∷ l) (suc k) m n d z h b e =

@@ -6,11 +6,12 @@ use lib.Dec.{ltb, eqb}
 use lib.IntN.{ℤ}
 use lib.ListN.{length, getD, drop}
 use Rattle.element_sibson.specs.Piece.{top, right, bottom, left}
+use Rattle.element_readings.specs.Reading.{bendsOf}
 use Rattle.sheet_layout.specs.Format.{columns, rows}
 use Rattle.sheet_calls.specs.Rules.{Rule, rule, firstRefusal}
 use Rattle.sheet_calls.specs.Refusals.{outside, sheetRules}
-use Rattle.surface_of_sheet.specs.Place.{Place, seen, touches}
-use Rattle.surface_of_sheet.specs.Surface.{bendXXAt, bendXYAt, bendYYAt}
+use Rattle.surface_of_sheet.specs.Place.{Place, cellAt, pointAt, seen, touches}
+use Rattle.surface_of_sheet.specs.Surface.{cubicAt}
 use Rattle.surface_bends.specs.declared.Listed.{Listed}
 use Rattle.surface_bends.specs.declared.Listed.the-variants.{Pieces, Refused}
 
@@ -45,7 +46,7 @@ entryPlace s x y k = getD (touchingPlaces s x y) k (nowhere s x y)
 
 -- the bend at a place: xx, xy, yy in 1/64 grain per pixel per pixel, the whole numbers before a reading's division
 unfoldable pub bendsAt : List ℕ → Place → List ℤ
-bendsAt s p = bendXXAt s p ∷ bendXYAt s p ∷ bendYYAt s p ∷ []
+bendsAt s p = bendsOf (cellAt s p) (cubicAt s p) (pointAt s p)
 
 -- from each piece that touches the pixel
 unfoldable pub bends : List ℕ → ℕ → ℕ → List ℤ

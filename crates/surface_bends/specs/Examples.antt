@@ -1,21 +1,15 @@
--- A sheet of four cells from the outside vectors: the pieces that touch its pixels, and the bends from each, computed on the definitions. Assumes nothing.
+-- A sheet of four cells: the pieces that touch its pixels, and the bends from each, computed on the definitions. Assumes nothing.
 use Prim.Native.Nat.{ℕ}
 use mathlib.Core.Path.{_≡_}
 use mathlib.Core.List.{List, [], _∷_, _++_, map}
 use lib.IntN.{ℤ}
-use lib.ListN.{length, replicate}
+use lib.ListN.{length}
 use Rattle.element_sibson.specs.Piece.{top, right, bottom, left}
 use Rattle.element_sibson.specs.Element.{+_, −_}
 use Rattle.surface_of_sheet.specs.Place.{seen}
+use Rattle.surface_of_sheet.specs.Examples.{sevens}
 use Rattle.surface_bends.specs.Bends.{touchingPlaces, Tally, counted, withBends}
-
--- vertical lines 3, 7 and 15, horizontal lines 0, 6 and 8: four cells of four sizes
-abbrev pub unevenMesh : List ℕ
-unevenMesh =
-    (0x4C ∷ 0x56 ∷ 0x53 ∷ 1 ∷ 0 ∷ 3 ∷ 3 ∷ 0 ∷ []) ++ (3 ∷ 0 ∷ 7 ∷ 0 ∷ 15 ∷ 0 ∷ 0 ∷ 0 ∷ 6 ∷ 0 ∷ 8 ∷ 0 ∷ []) ++
-    (3 ∷ 0 ∷ 5 ∷ 0 ∷ 255 ∷ 255 ∷ 10 ∷ 0 ∷ 5 ∷ 0 ∷ 249 ∷ 255 ∷ 17 ∷ 0 ∷ 5 ∷ 0 ∷ 243 ∷ 255 ∷ []) ++
-    (248 ∷ 255 ∷ 5 ∷ 0 ∷ 12 ∷ 0 ∷ 255 ∷ 255 ∷ 252 ∷ 255 ∷ 6 ∷ 0 ∷ 6 ∷ 0 ∷ 243 ∷ 255 ∷ 0 ∷ 0 ∷ []) ++
-    (237 ∷ 255 ∷ 5 ∷ 0 ∷ 25 ∷ 0 ∷ 244 ∷ 255 ∷ 243 ∷ 255 ∷ 19 ∷ 0 ∷ 251 ∷ 255 ∷ 225 ∷ 255 ∷ 13 ∷ 0 ∷ [])
+use Rattle.surface_bends.specs.UnevenMesh.{unevenMesh}
 
 -- a pixel, a buffer, what the call on it answers, and what it leaves there
 pub record Example : Type 0 where
@@ -24,10 +18,6 @@ pub record Example : Type 0 where
   pub buffer : List ℤ
   pub gives : Tally
   pub leaves : List ℤ
-
--- a buffer that has been lent with 7 in each of its places
-abbrev pub sevens : ℕ → List ℤ
-sevens places = replicate places (+ 7)
 
 -- so many pieces, their bends, and so many places behind these in a buffer of 24
 abbrev pub listedAt : ℕ → ℕ → ℕ → List ℤ → ℕ → Example

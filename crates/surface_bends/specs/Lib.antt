@@ -1,3 +1,4 @@
 pub mod Bends
 pub mod BendLaws
+pub mod UnevenMesh
 pub mod Examples
