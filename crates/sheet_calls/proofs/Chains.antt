@@ -10,7 +10,7 @@ use native.Mathlib.Decide.{ℕ-discrete}
 use borrow.Author.Tests.{ne-eqb, not-false}
 use Rattle.sheet_layout.specs.Format.{columns, rows, Node, nodeIn}
 use Rattle.sheet_calls.specs.Rules.{Rule, firstRefusal}
-use Rattle.sheet_calls.specs.Refusals.{otherMark, otherVersion, otherCounts, otherLength, wrongLines, wrongNodes, outside, offMesh, emptyRun, otherKind, noNode, wrongNumbers, Accepted, sheetRules, sheetRefusal, pixelRefusal, checkRules, checkRefusal, lookupRules, lookupRefusal, settingRules, settingRefusal, readingRules, readingRefusal, runRules, runRefusal, CallNumbers}
+use Rattle.sheet_calls.specs.Refusals.{otherMark, otherVersion, otherCounts, otherLength, wrongLines, wrongNodes, outside, offMesh, emptyRun, otherKind, noNode, wrongNumbers, Accepted, sheetRules, sheetRefusal, checkRules, checkRefusal, lookupRules, lookupRefusal, settingRules, settingRefusal, readingRules, readingRefusal, runRules, runRefusal, CallNumbers}
 use Rattle.sheet_calls.specs.WellFormed.{Inside, OnMesh}
 use Rattle.sheet_calls.proofs.Rules.{rule-laws, nonzero, numbered, orElse, first-append, zero-or, or-zero}
 use Rattle.sheet_calls.proofs.Conditions.{condition-laws}
@@ -54,31 +54,23 @@ pub lookup-is : (s : List ℕ) (i j : ℕ) → lookupRefusal s i j ≡ orElse (s
 unfolding lookupRefusal lookupRules firstRefusal
 lookup-is s i j = sheet-append _ _ _
 
--- a last test behind those of n and m
-behind-test : (n : ℕ) (b : Bool) (m k : ℕ) → orElse n (cond b (suc m) k) ≡ orElse (orElse n (cond b (suc m) 0)) k
-behind-test n b m k = elim (ℕ-discrete n 0) [ yes e ↦ rw e (by b) | no h ↦ rw (ne-eqb n 0 h, ne-eqb n 0 h) refl ]
+-- a last test behind those of n and 10
+behind-ten : (n : ℕ) (b : Bool) (k : ℕ) → orElse n (cond b 10 k) ≡ orElse (orElse n (cond b 10 0)) k
+behind-ten n b k = elim (ℕ-discrete n 0) [ yes e ↦ rw e (by b) | no h ↦ rw (ne-eqb n 0 h, ne-eqb n 0 h) refl ]
   where
-    by : (b : Bool) → cond b (suc m) k ≡ orElse (cond b (suc m) 0) k
-    by true = rw (ne-eqb (suc m) 0 (λ e. omega arith)) refl
+    by : (b : Bool) → cond b 10 k ≡ orElse (cond b 10 0) k
+    by true = refl
     by false = refl
 
 -- setting is refused as looking up is, then by 11
 pub setting-is : (s : List ℕ) (i j : ℕ) (v : Node) → settingRefusal s i j v ≡ orElse (lookupRefusal s i j) (cond (wrongNumbers v) 11 0)
 unfolding settingRefusal settingRules firstRefusal
 setting-is s i j v =
-    sheet-append _ _ _ ∙ behind-test (sheetRefusal s) (noNode s i j) 9 _ ∙ ap (λ n. orElse n (cond (wrongNumbers v) 11 0)) (sym (lookup-is s i j))
+    sheet-append _ _ _ ∙ behind-ten (sheetRefusal s) (noNode s i j) _ ∙ ap (λ n. orElse n (cond (wrongNumbers v) 11 0)) (sym (lookup-is s i j))
 
-pub pixel-is : (s : List ℕ) (x y : ℕ) → pixelRefusal s x y ≡ orElse (sheetRefusal s) (cond (outside s x y) 7 0)
-unfolding pixelRefusal firstRefusal
-pixel-is s x y = sheet-append _ _ _
-
--- a call that looks at the sheet and a pixel, and makes one test more, is refused as every call there is, then by its own number
-pub at-pixel : (s : List ℕ) (x y k : ℕ) → orElse (sheetRefusal s) (cond (outside s x y) 7 k) ≡ orElse (pixelRefusal s x y) k
-at-pixel s x y k = behind-test (sheetRefusal s) (outside s x y) 6 k ∙ ap (λ n. orElse n k) (sym (pixel-is s x y))
-
-pub reading-is : (s : List ℕ) (x y kind : ℕ) → readingRefusal s x y kind ≡ orElse (pixelRefusal s x y) (cond (otherKind kind) 9 0)
+pub reading-is : (s : List ℕ) (x y kind : ℕ) → readingRefusal s x y kind ≡ orElse (sheetRefusal s) (cond (outside s x y) 7 (cond (otherKind kind) 9 0))
 unfolding readingRefusal readingRules firstRefusal
-reading-is s x y kind = sheet-append _ _ _ ∙ at-pixel s x y _
+reading-is s x y kind = sheet-append _ _ _
 
 pub run-is : (s : List ℕ) (x y count : ℕ) → runRefusal s x y count ≡ orElse (sheetRefusal s) (cond (offMesh s x y count) 7 (cond (emptyRun count) 8 0))
 unfolding runRefusal runRules firstRefusal
@@ -124,13 +116,6 @@ pub setting-taken : {s : List ℕ} {i j : ℕ} (v : Node) → HasNode s i j → 
 unfolding wrongNumbers
 setting-taken {s} {i} {j} v h e = setting-is s i j v ∙ zero-or (lookupRefusal s i j) _ (lookup-taken h) ∙ rw e refl
 
-pub pixel-held : {s : List ℕ} {x y : ℕ} → pixelRefusal s x y ≡ 0 → Accepted s × Inside s x y
-pixel-held {s} {x} {y} e =
-    let h = behind-sheet (sym (pixel-is s x y) ∙ e) in (h .0, condition-laws .seven s x y .0 (not-given (outside s x y) 6 (h .1)))
-
-pub pixel-taken : {s : List ℕ} {x y : ℕ} → Accepted s → Inside s x y → pixelRefusal s x y ≡ 0
-pixel-taken {s} {x} {y} a i = pixel-is s x y ∙ sheet-taken a ∙ rw (condition-laws .seven s x y .1 i) refl
-
 pub record HasPixel (s : List ℕ) (x y k : ℕ) : Type 0 where
   pub accepted : Accepted s
   pub inside : Inside s x y
@@ -138,13 +123,13 @@ pub record HasPixel (s : List ℕ) (x y k : ℕ) : Type 0 where
 
 pub reading-held : (s : List ℕ) (x y kind : ℕ) → readingRefusal s x y kind ≡ 0 → HasPixel s x y kind
 reading-held s x y kind e =
-    let h = or-zero _ _ (sym (reading-is s x y kind) ∙ e) in
-    let p = pixel-held (h .0) in
-    record { accepted = p .0; inside = p .1; kind = condition-laws .nine kind .0 (not-given (otherKind kind) 8 (h .1)) }
+    let h = behind-sheet (sym (reading-is s x y kind) ∙ e) in
+    let p = cond-zero (outside s x y) 6 _ (h .1) in
+    record { accepted = h .0; inside = condition-laws .seven s x y .0 (p .0); kind = condition-laws .nine kind .0 (not-given (otherKind kind) 8 (p .1)) }
 
 pub reading-taken : {s : List ℕ} {x y kind : ℕ} → HasPixel s x y kind → readingRefusal s x y kind ≡ 0
 reading-taken {s} {x} {y} {kind} h =
-    reading-is s x y kind ∙ zero-or (pixelRefusal s x y) _ (pixel-taken (h .accepted) (h .inside)) ∙ rw (condition-laws .nine kind .1 (h .kind)) refl
+    reading-is s x y kind ∙ sheet-taken (h .accepted) ∙ rw (condition-laws .seven s x y .1 (h .inside), condition-laws .nine kind .1 (h .kind)) refl
 
 -- the mesh holds what lies between two of its pixels in a row
 between : {s : List ℕ} {x y n : ℕ} → Inside s x y → Inside s (x + n) y → (k : ℕ) → k ≤ n → Inside s (x + k) y

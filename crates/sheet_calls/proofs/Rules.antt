@@ -103,10 +103,6 @@ refused-by n k q e h = e ∙ sym (q ∙ refused-or n k (λ z. h (e ∙ z)))
 pub passed-by : {m r : ℕ} (n k : ℕ) → m ≡ orElse n k → r ≡ n → r ≡ 0 → k ≡ m
 passed-by n k q e h = sym (q ∙ zero-or n k (sym e ∙ h))
 
--- so by its last test, from the answer that code has
-pub last-test : {m r : ℕ} (n : ℕ) (b : Bool) (k : ℕ) → m ≡ orElse n (cond b k 0) → r ≡ n → r ≡ 0 → {c : Bool} → c ≡ b → cond c k 0 ≡ m
-last-test n b k q e h f = rw f (passed-by n (cond b k 0) q e h)
-
 -- both are 0
 pub or-zero : (n k : ℕ) → orElse n k ≡ 0 → (n ≡ 0) × (k ≡ 0)
 or-zero n k e = by (eqb n 0) refl

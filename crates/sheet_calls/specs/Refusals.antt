@@ -95,10 +95,6 @@ sheetRules sheet =
 unfoldable pub sheetRefusal : List ℕ → ℕ
 sheetRefusal s = firstRefusal (sheetRules (λ s. s)) s
 
--- the number that refuses every call at a pixel of a sheet, or 0: by the six, then by 7
-unfoldable pub pixelRefusal : List ℕ → ℕ → ℕ → ℕ
-pixelRefusal s x y = firstRefusal (sheetRules (λ s. s) ++ rule 7 (λ s. outside s x y) ∷ []) s
-
 -- ---- each call: what it is given, its rules in the order of looking, and the number that refuses it, or 0
 
 -- checking

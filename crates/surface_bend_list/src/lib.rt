@@ -11,12 +11,13 @@ ghost use Rattle.surface_places.specs.Found.{CellTouches, cellsOf, found};
 ghost use Rattle.surface_bends.specs.Bends.{bends, bendsRefusal, tally, counted, withBends};
 ghost use Rattle.surface_bend_list.specs.Rows.{bendsIn, bendsInRow};
 use element_bends::cell_bends;
+use sheet_checking::sheet_refusal;
 use surface_bends::Listed;
 use surface_cells::corner_numbers;
-use surface_pixels::pixel_refusal;
 use surface_places::Cells;
 use surface_places::Found;
 use surface_places::find;
+use surface_places::outside;
 use surface_places::pixel_in;
 
 // How many places the buffer has at least: three for each of eight pieces.
@@ -39,9 +40,12 @@ pub fn bends(sheet: &[u8], x: u32, y: u32, list: &mut [i64]) -> Listed
 fn bends_refusal(sheet: &[u8], x: u32, y: u32, places: usize) -> u32
     ensures { λ r. ⌜ r ≡ bendsRefusal (now (sheet .entry)) x y places ⌝ }
 {
-    let refusal = pixel_refusal(sheet, x, y);
+    let refusal = sheet_refusal(sheet);
     if refusal != 0 {
         return refusal;
+    }
+    if outside(sheet, x, y) {
+        return 7;
     }
     if places < PLACES {
         return 14;

@@ -1,2 +1,3 @@
 pub mod ByKind
 pub mod Cubics
+pub mod Refusal

@@ -1,10 +1,10 @@
-// Reading at a pixel: the level, the tilt or the bend, or the number of a refusal; and what refuses every call at a pixel.
+// Reading at a pixel: the level, the tilt or the bend, or the number of a refusal.
 ghost use mathlib.Core.Path.{_≡_};
 ghost use mathlib.Core.List.{[], _∷_};
 ghost use Rattle.element_cell.specs.Cell.{pixelCell, pixelPoint, PixelInCell};
 ghost use Rattle.element_cell.specs.Coefficients.{halves, Sized};
 ghost use Rattle.element_readings.specs.Reading.{levelOf, tiltXOf, tiltYOf, bendXXOf, bendXYOf, bendYYOf};
-ghost use Rattle.sheet_calls.specs.Refusals.{pixelRefusal, readingRefusal, Accepted};
+ghost use Rattle.sheet_calls.specs.Refusals.{readingRefusal, Accepted};
 ghost use Rattle.sheet_calls.specs.WellFormed.{Inside};
 ghost use Rattle.surface_answers.specs.Answers.{outcome, answered, FitsFloat};
 ghost use Rattle.surface_of_sheet.specs.Place.{place};
@@ -53,9 +53,9 @@ pub fn level_and_tilt(sheet: &[u8], x: u32, y: u32) -> [i64; 3]
     ]
 }
 
-// The number that refuses every call at the pixel, by its sheet or by 7, or 0.
-pub fn pixel_refusal(sheet: &[u8], x: u32, y: u32) -> u32
-    ensures { λ r. ⌜ r ≡ pixelRefusal (now (sheet .entry)) x y ⌝ }
+// The number that refuses the reading, or 0.
+fn read_refusal(sheet: &[u8], x: u32, y: u32, kind: u32) -> u32
+    ensures { λ r. ⌜ r ≡ readingRefusal (now (sheet .entry)) x y kind ⌝ }
 {
     let refusal = sheet_refusal(sheet);
     if refusal != 0 {
@@ -63,17 +63,6 @@ pub fn pixel_refusal(sheet: &[u8], x: u32, y: u32) -> u32
     }
     if outside(sheet, x, y) {
         return 7;
-    }
-    0
-}
-
-// The number that refuses the reading, or 0.
-fn read_refusal(sheet: &[u8], x: u32, y: u32, kind: u32) -> u32
-    ensures { λ r. ⌜ r ≡ readingRefusal (now (sheet .entry)) x y kind ⌝ }
-{
-    let refusal = pixel_refusal(sheet, x, y);
-    if refusal != 0 {
-        return refusal;
     }
     if 2 < kind {
         return 9;
