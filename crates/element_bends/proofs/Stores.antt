@@ -1,44 +1,37 @@
--- Runs of stores: two, one behind the other, are one; and what is left of a run whose parts are stored in turn. Assumes nothing.
+-- Lists stored one behind the other, by `sets`: what is stored so far, and where it goes on. Assumes nothing.
 use Prim.Native.Nat.{ℕ, suc, _+_, _≤_}
 use mathlib.Core.Path.{_≡_, refl, sym, _∙_, ap}
-use mathlib.Core.List.{List, [], _∷_, _++_, flatMap}
+use mathlib.Core.List.{List, [], _∷_, _++_}
 use native.Mathlib.Nat.{add-zero, add-suc, suc-add}
 use native.Mathlib.Omega.{arith}
 use lib.ListN.{length, set, length-append}
 use lib.Seq.{sets, length-sets}
 
 module _ {A : Type 0} where
-  pub sets-append : (l : List A) (i : ℕ) (us vs : List A) → sets (sets l i us) (i + length us) vs ≡ sets l i (us ++ vs)
+  sets-append : (l : List A) (i : ℕ) (us vs : List A) → sets (sets l i us) (i + length us) vs ≡ sets l i (us ++ vs)
   sets-append l i [] vs = ap (λ j. sets l j vs) (add-zero i)
   sets-append l i (u ∷ us) vs = ap (λ j. sets (sets (set l i u) (suc i) us) j vs) (add-suc i (length us) ∙ sym (suc-add i (length us))) ∙ sets-append (set l i u) (suc i) us vs
 
--- ---- the values of f at one key after the other
+-- in what was l₀, `done` is stored from index i₀ on: it is l now, and i is the index behind
+pub record Stored {A : Type 0} (l₀ : List A) (i₀ : ℕ) (done l : List A) (i : ℕ) : Type 0 where
+  pub behind : i ≡ i₀ + length done
+  pub holds : l ≡ sets l₀ i₀ done
 
--- storing those at ks from index i of l on ends where storing `all` from index i₀ of l₀ on does
-pub record Left {K A : Type 0} (f : K → List A) (l₀ : List A) (i₀ : ℕ) (all l : List A) (i : ℕ) (ks : List K) : Type 0 where
-  pub stores : sets l i (flatMap f ks) ≡ sets l₀ i₀ all
-  pub end : i + length (flatMap f ks) ≡ i₀ + length all
-  pub room : i + length (flatMap f ks) ≤ length l
+module _ {A : Type 0} {l₀ : List A} {i₀ : ℕ} where
+  pub none-stored : Stored l₀ i₀ [] l₀ i₀
+  none-stored = record { behind = sym (add-zero i₀); holds = refl }
 
-pub all-left : {K A : Type 0} (f : K → List A) (l : List A) (i : ℕ) (ks : List K) → i + length (flatMap f ks) ≤ length l → Left f l i (flatMap f ks) l i ks
-all-left f l i ks h = record { stores = refl; end = refl; room = h }
+  module _ {done l : List A} {i : ℕ} (h : Stored l₀ i₀ done l i) where
+    pub same-size : length l ≡ length l₀
+    same-size = ap length (h .holds) ∙ length-sets l₀ i₀ done
 
-module _ {K A : Type 0} {f : K → List A} {l₀ all l : List A} {i₀ i : ℕ} where
-  module _ {k : K} {ks : List K} (h : Left f l₀ i₀ all l i (k ∷ ks)) where
-    -- there is room for those at the next key, and behind them the others are left
-    pub next-fits : i + length (f k) ≤ length l
-    unfolding flatMap
-    next-fits = omega (arith, h .room, length-append (f k) (flatMap f ks))
-
-    pub others-left : {l′ : List A} {i′ : ℕ} → (i′ ≡ i + length (f k)) × (l′ ≡ sets l i (f k)) → Left f l₀ i₀ all l′ i′ ks
-    unfolding flatMap
-    others-left (d, e) = record {
-      stores = (λ t. sets (e t) (d t) (flatMap f ks)) ∙ sets-append l i (f k) (flatMap f ks) ∙ h .stores;
-      end = omega (arith, h .end, length-append (f k) (flatMap f ks));
-      room = omega (arith, h .room, length-append (f k) (flatMap f ks), ap length e ∙ length-sets l i (f k));
+    -- one list more
+    pub goes-on : (more : List A) {l′ : List A} {i′ : ℕ} → (i′ ≡ i + length more) × (l′ ≡ sets l i more) → Stored l₀ i₀ (done ++ more) l′ i′
+    goes-on more (d, e) = record {
+      behind = rw length-append (omega (arith, d, h .behind));
+      holds = e ∙ (λ t. sets (h .holds t) (h .behind t) more) ∙ sets-append l₀ i₀ done more;
     }
 
-  -- once no key is left, all is stored
-  pub none-left : Left f l₀ i₀ all l i [] → (i ≡ i₀ + length all) × (l ≡ sets l₀ i₀ all)
-  unfolding flatMap
-  none-left h = (sym (add-zero i) ∙ h .end, h .stores)
+    -- there is room for it, where there is room for all
+    pub fits : (more rest : List A) → i₀ + length (done ++ (more ++ rest)) ≤ length l₀ → i + length more ≤ length l
+    fits more rest r = omega (arith, r, same-size, h .behind, length-append done (more ++ rest), length-append more rest)

@@ -1,4 +1,4 @@
--- Lists one after the other, `inTurn`: where they are empty, how long they are, what is in them, and in which order. Assumes nothing.
+-- Lists one after the other, `inTurn`: where they are empty, what they start with, how long they are, what is in them, and in which order. Assumes nothing.
 use Prim.Native.Nat.{ℕ, zero, suc, _+_, _*_, _-_, _≤_, _<_}
 use mathlib.Core.Path.{_≡_, refl, sym, _∙_}
 use mathlib.Core.Logic.{_↔_, inl, inr}
@@ -56,10 +56,9 @@ module _ {A : Type 0} where
     | no d ↦ rw (none n (omega arith) (omega arith)) (append-nil (inTurn n f) ∙ no-more-in-turn m n f (omega arith) (λ i l k. none i l (omega arith)))
   ]
 
-  -- ---- how long they are
+  -- ---- what they start with: the first m
 
-  -- the first m are what all n start with
-  first-in-turn : (m n : ℕ) (f : ℕ → List A) → m ≤ n → (rest : List A) × (inTurn n f ≡ inTurn m f ++ rest)
+  pub first-in-turn : (m n : ℕ) (f : ℕ → List A) → m ≤ n → (rest : List A) × (inTurn n f ≡ inTurn m f ++ rest)
   unfolding inTurn
   first-in-turn m zero f h = let same : m ≡ 0 = omega arith in ([], rw same refl)
   first-in-turn m (suc n) f h = elim (ℕ-discrete m (suc n)) [
@@ -67,8 +66,7 @@ module _ {A : Type 0} where
     | no d ↦ let (rest, e) = first-in-turn m n f (omega arith) in (rest ++ f n, rw (e, append-assoc) refl)
   ]
 
-  pub shorter-in-turn : (m n : ℕ) (f : ℕ → List A) → m ≤ n → length (inTurn m f) ≤ length (inTurn n f)
-  shorter-in-turn m n f h = let (rest, e) = first-in-turn m n f h in rw (e, length-append) (omega arith)
+  -- ---- how long they are
 
   module _ (c lo : ℕ) (f : ℕ → List A) (each : (i : ℕ) → length (f i) ≤ c) (before : (i : ℕ) → i < lo → f i ≡ []) where
     most-from : (k : ℕ) → length (inTurn (lo + k) f) ≤ c * k

@@ -5,6 +5,7 @@ use mathlib.Core.Path.{_≡_, ap}
 use native.Mathlib.Numerals.{add-one}
 use native.Mathlib.Omega.{arith}
 use lib.ListN.{length}
+use Rattle.element_bends.proofs.Stores.{Stored, same-size, goes-on}
 use Rattle.sheet_layout.specs.Format.{rows, lineY}
 use Rattle.surface_of_sheet.proofs.Cells.{sound}
 use Rattle.surface_of_sheet.proofs.CellsAlong.{low-below}
@@ -16,13 +17,13 @@ use Rattle.surface_bends.proofs.Numbers.{few}
 use Rattle.surface_bends.specs.Bends.{inTurn}
 use Rattle.surface_bend_list.specs.Rows.{bendsInRow}
 use Rattle.surface_bend_list.proofs.Rows.{rows-are, row-at, before-row, behind-row}
-use Rattle.surface_bend_list.proofs.Stored.{Stored, begins, same-size, goes-on, fits, ends}
+use Rattle.surface_bend_list.proofs.Stored.{begins, next-fits, ends}
 use Rattle.surface_bend_list.proofs.list_rows.Statement.{statement}
 use Rattle.surface_bend_list.proofs.list_rows.Tie as tie
 
 abbrev Inv-loop : tie.InvT-loop
 Inv-loop sheet cells x y list₀ row₀ at₀ list row at =
-    (cells .rows .lowest ≤ row) × (row ≤ suc (cells .rows .highest)) × Stored (bendsInRow sheet x y) list₀ 0 row list at
+    (cells .rows .lowest ≤ row) × (row ≤ suc (cells .rows .highest)) × Stored list₀ 0 (inTurn row (bendsInRow sheet x y)) list at
 
 abbrev μ-loop : tie.MeasureT-loop
 μ-loop sheet cells x y list₀ row₀ at₀ list row at = suc (cells .rows .highest) - row
@@ -48,14 +49,14 @@ loop-holds c =
     let s = c .before in let p = s .pre in (
       omega arith,
       rw (cells-are s) (let l = low-below (lineY (now (s .args .sheet))) (s .args .y) (rows (now (s .args .sheet)) - 2) in omega arith),
-      begins _ (λ j h. before-row _ _ _ (p .0) (p .1) j (rw (cells-are s) at h)),
+      begins _ _ (λ j h. before-row _ _ _ (p .0) (p .1) j (rw (cells-are s) at h)),
     )
 
 list-row-requires : tie.Need-list-row-requires Inv-loop μ-loop
 list-row-requires c κs =
     let t = c .before in let l = t .before .before in let s = l .before .before in let v = l .loop .inv in let p = s .pre in (
       (p .0, p .1, columns-are s, row-at _ _ _ (p .0) (p .1) _ (rw (cells-are s) at (v .0)) (rw (cells-are s) at (t .if1 .taken))),
-      fits (v .2) (rows (now (s .args .sheet)) - 1) (omega (arith, t .if1 .taken, there s)) (room s),
+      next-fits _ _ (v .2) (rows (now (s .args .sheet)) - 1) (omega (arith, t .if1 .taken, there s)) (room s),
     )
 
 add-row : tie.Need-add-row Inv-loop μ-loop
@@ -67,9 +68,10 @@ loop-less : tie.Need-loop-less Inv-loop μ-loop
 loop-less c = omega (arith, c .before .before .before .if1 .taken)
 
 loop-again : tie.Need-loop-again Inv-loop μ-loop
+unfolding inTurn
 loop-again c =
     let b = c .before in let t = b .before .before in let l = t .before .before in let v = l .loop .inv in
-    (omega (arith, v .0), omega (arith, t .if1 .taken), rw (add-one (l .loop .row)) (goes-on (v .2) (b .list-row .ensures .0) (b .list-row .ensures .1)))
+    (omega (arith, v .0), omega (arith, t .if1 .taken), rw (add-one (l .loop .row)) (goes-on (v .2) _ (b .list-row .ensures)))
 
 same-length : tie.Need-same-length Inv-loop μ-loop
 same-length c = same-size (c .before .before .loop .inv .2)
@@ -77,7 +79,7 @@ same-length c = same-size (c .before .before .loop .inv .2)
 returns : tie.Need-returns Inv-loop μ-loop
 returns c =
     let l = c .before .before in let s = l .before .before in let v = l .loop .inv in let p = s .pre in
-    let e = ends (v .2) (rows (now (s .args .sheet)) - 1) (omega (arith, v .1, there s))
+    let e = ends _ _ (v .2) (rows (now (s .args .sheet)) - 1) (omega (arith, v .1, there s))
     (λ j h m. behind-row _ _ _ (p .0) (p .1) j (rw (cells-are s) at (let far : s .args .cells .rows .highest < j = omega (arith, c .if1 .left) in far))) in
     rw (← rows-are (now (s .args .sheet)) (s .args .x) (s .args .y)) (omega (arith, e .behind), e .holds)
 
