@@ -2,11 +2,11 @@
  * docs/FORMAT.md.
  *
  * Link with liblight_sheet_c.a, for x86-64 Linux: `rt staticlib light_sheet_c` proves the module and writes the archive to target/staticlib. The archive has
- * these eight calls and needs nothing else but memcpy and memset of the C library.
+ * these eight calls and needs nothing else, not even the C library.
  *
  * Of every call:
- * - Nothing is kept from one call to the next, nothing is allocated, no system call is made, errno is not touched. A call always returns. lvs_fill_run takes
- *   at most LVS_RUN_STACK bytes of stack, the others at most LVS_STACK.
+ * - Nothing is kept from one call to the next, nothing is allocated, no system call is made, errno is not touched. A call always returns, and takes at most
+ *   LVS_STACK bytes of stack.
  * - The whole sheet is checked each time, so a sheet need not be checked first. Any bytes may be passed as a sheet: none is read behind len.
  * - A call that is refused changes no memory that it was lent. The number is that of the first condition, in the order of lvs_refusal, that holds among those
  *   that concern the call.
@@ -59,10 +59,9 @@ enum lvs_kind {
 #define LVS_MAX_RUN 4097
 #define LVS_BEND_PLACES 24
 
-/* The stack that a call takes at most, in bytes: lvs_fill_run, which has a row of its own; any other call. Where the C library is bound lazily, the dynamic
- * linker takes a few KB more when memset is first called; with -z now, or linked statically, nothing comes on top. */
-#define LVS_RUN_STACK 17408
+/* The stack that any call takes at most, in bytes. A run has no row of its own, so it takes no more than that; LVS_RUN_STACK is for code that names it. */
 #define LVS_STACK 1024
+#define LVS_RUN_STACK 1024
 
 /* Checks a sheet.
  * Returns 0 where it is accepted, else 1 to 6. Writes nothing. */
@@ -105,6 +104,8 @@ uint32_t lvs_read(const uint8_t *sheet, size_t len, uint32_t x, uint32_t y, uint
 uint32_t lvs_bends(const uint8_t *sheet, size_t len, uint32_t x, uint32_t y, int64_t *bends, size_t places, uint32_t *pieces);
 
 /* Fills a run of levels along a row of pixels: place k of levels gets the level at the pixel (x + k, y), in grains, as lvs_read rounds it.
+ * Each level is stored once, from the first place to the last. A monitor that looks at levels meanwhile finds, for some k, the first k places with their levels
+ * and the others as they were.
  * Returns 0, and has written all count places; or 1 to 8, and has written nothing. */
 uint32_t lvs_fill_run(const uint8_t *sheet, size_t len, uint32_t x, uint32_t y, int32_t *levels, size_t count);
 

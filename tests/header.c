@@ -33,9 +33,9 @@ static_assert(LVS_NODE_SIZE == 6, "bytes");
 static_assert(LVS_MAX_RUN == 4097, "pixels");
 static_assert(LVS_BEND_PLACES == 24, "3 * 2 * 4");
 
-/* stack, in bytes: 17 KB and 1 KB */
-static_assert(LVS_RUN_STACK == 17408, "a row of 4,097 numbers of 32 bits, and 1 KB");
+/* stack, in bytes */
 static_assert(LVS_STACK == 1024, "1 KB");
+static_assert(LVS_RUN_STACK == 1024, "the same: a run has no row of its own");
 
 /* the calls, on x86-64 Linux: another type, or another linkage in C++, is an error */
 #ifdef __cplusplus

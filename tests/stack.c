@@ -127,7 +127,7 @@ static void refused(uint8_t *sheet, size_t len, enum lvs_refusal number) {
     EXPECT(fill_slopes, LVS_STACK, number, SHEET);
     EXPECT(read, LVS_STACK, number, SHEET);
     EXPECT(bends, LVS_STACK, number, SHEET, .places = LVS_BEND_PLACES);
-    EXPECT(fill_run, LVS_RUN_STACK, number, SHEET, .levels = levels, .count = 4);
+    EXPECT(fill_run, LVS_STACK, number, SHEET, .levels = levels, .count = 4);
 }
 
 /* Slopes of an accepted sheet whose lines lie `gap` apart, filled: done, and refused by each condition of its own. */
@@ -165,13 +165,13 @@ static void accepted(uint8_t *sheet, size_t len, uint32_t lines, uint32_t last) 
     for (uint32_t y = 0; y <= last; y += 1 + last / 97) {
         for (uint32_t x = 0; x <= last; x += 1 + last / 89)
             for (uint32_t kind = LVS_LEVEL; kind <= LVS_BEND; kind++) EXPECT(read, LVS_STACK, LVS_DONE, SHEET, .x = x, .y = y, .kind = kind);
-        EXPECT(fill_run, LVS_RUN_STACK, LVS_DONE, SHEET, .y = y, .levels = levels, .count = last + 1);
-        EXPECT(fill_run, LVS_RUN_STACK, LVS_DONE, SHEET, .x = y, .y = y, .levels = levels, .count = 1);
+        EXPECT(fill_run, LVS_STACK, LVS_DONE, SHEET, .y = y, .levels = levels, .count = last + 1);
+        EXPECT(fill_run, LVS_STACK, LVS_DONE, SHEET, .x = y, .y = y, .levels = levels, .count = 1);
     }
     EXPECT(read, LVS_STACK, LVS_OUTSIDE, SHEET, .x = last + 1);
     EXPECT(read, LVS_STACK, LVS_KIND, SHEET, .kind = LVS_BEND + 1);
-    EXPECT(fill_run, LVS_RUN_STACK, LVS_OUTSIDE, SHEET, .x = 1, .levels = levels, .count = last + 1);
-    EXPECT(fill_run, LVS_RUN_STACK, LVS_EMPTY_RUN, SHEET, .levels = levels, .count = 0);
+    EXPECT(fill_run, LVS_STACK, LVS_OUTSIDE, SHEET, .x = 1, .levels = levels, .count = last + 1);
+    EXPECT(fill_run, LVS_STACK, LVS_EMPTY_RUN, SHEET, .levels = levels, .count = 0);
     bent(sheet, len, last / (lines - 1), last);
     filled(sheet, len, last / (lines - 1));
 }
@@ -217,6 +217,6 @@ int main(void) {
     refused(sheet, len, LVS_VERSION);
     sheet[0] = 'l';
     refused(sheet, len, LVS_MARK);
-    printf("stack: %lu calls keep to %d bytes of stack, a run to %d\n", made, LVS_STACK, LVS_RUN_STACK);
+    printf("stack: %lu calls keep to %d bytes of stack\n", made, LVS_STACK);
     return 0;
 }

@@ -1,4 +1,3 @@
-pub mod Laid
 pub mod Divisions
 pub mod Products
 pub mod InRow

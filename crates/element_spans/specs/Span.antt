@@ -1,9 +1,7 @@
--- A row of pixels in one cell: the level at each, where its spans end (one for each piece that it crosses), and a row with some slots rewritten. Assumes nothing.
-use Prim.Native.Nat.{ℕ, zero, suc, _+_, _*_, _-_, _/_, _≤_, _<_, min}
+-- A row of pixels in one cell: the level at each, and where its spans end, one for each piece that it crosses. Assumes nothing.
+use Prim.Native.Nat.{ℕ, suc, _+_, _*_, _-_, _/_, _≤_, _<_, min}
 use mathlib.Core.Path.{_≡_}
-use mathlib.Core.List.{List}
 use lib.IntN.{ℤ}
-use lib.ListN.{set}
 use Rattle.element_sibson.specs.Piece.{Piece, top, right, bottom, left, pieceAt}
 use Rattle.element_sibson.specs.Element.{CornerNumbers, sibson}
 use Rattle.element_cell.specs.Cell.{pixelCell, pixelPoint, PixelInCell}
@@ -42,10 +40,3 @@ pub record SpanLaws : Type 0 where
   -- no row has pixels of top and of bottom, so it has three spans at most
   pub topOnly : (p : Pixel) (k : ℕ) → PixelInCell (toRight p k) → pixelPiece p ≡ top → ¬ (pixelPiece (toRight p k) ≡ bottom)
   pub bottomOnly : (p : Pixel) (k : ℕ) → PixelInCell (toRight p k) → pixelPiece p ≡ bottom → ¬ (pixelPiece (toRight p k) ≡ top)
-
--- ---- slots of a lent row
-
--- count slots rewritten, from index at on: slot at + k holds f k
-unfoldable pub laid : (ℕ → ℤ) → ℕ → ℕ → List ℤ → List ℤ
-laid f at zero row = row
-laid f at (suc k) row = set (laid f at k row) (at + k) (f k)

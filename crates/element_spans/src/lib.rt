@@ -6,12 +6,13 @@ ghost use Prim.Native.Nat.{_+_, _-_, _/_, _^_, _≤_, _<_, min};
 ghost use lib.IntN.{natAbs};
 ghost use lib.ListN.{length};
 ghost use Rattle.integers.specs.Round.{round};
+ghost use Rattle.integers.specs.Stepwise.{steps, startingAt};
 ghost use Rattle.element_sibson.specs.Element.{sibson};
 ghost use Rattle.element_cell.specs.Cell.{pixelCell, PixelInCell};
 ghost use Rattle.element_cell.specs.Corners.{corners, largest, AllWithin};
 ghost use Rattle.element_cell.specs.Pieces.{pieceOf};
 ghost use Rattle.element_row_cubic.specs.Row.{alongRow, atOffset};
-ghost use Rattle.element_spans.specs.Span.{toRight, cellLevel, ceiling, laid};
+ghost use Rattle.element_spans.specs.Span.{toRight, cellLevel, ceiling};
 ghost use Rattle.element_spans.specs.Ends.{upperHalf, middleOf, endsOf};
 ghost use Rattle.element_spans.specs.Needs.{FitsCell, LevelFits, FitsAlong};
 use element_cell::Piece;
@@ -30,7 +31,7 @@ struct Ends {
 // Fills `count` slots of the row from index `at` on: with the level at a pixel of a cell, and those to its right in the same cell, span by span.
 pub fn fill_cell(row: &mut [i32], at: usize, count: usize, n: [[i64; 3]; 4], first: Pixel)
     requires { ⌜ AllWithin largest (corners n) × FitsCell first count × (at + count ≤ length (now row)) ⌝ }
-    ensures { λ _. ⌜ now (row .exit) ≡ laid (λ k. cellLevel (corners n) (toRight first k)) at count (now (row .entry)) ⌝ }
+    ensures { λ _. ⌜ now (row .exit) ≡ steps (startingAt at (λ k. cellLevel (corners n) (toRight first k))) at count (now (row .entry)) ⌝ }
 {
     let d = Denominator::new(element_row_cubic::denominator(first.width, first.height));
     let ends = span_ends(first);
@@ -129,7 +130,7 @@ fn fill_levels(
     d: Denominator,
 )
     requires { ⌜ FitsAlong cubic offset count d × (at + count ≤ length (now row)) ⌝ }
-    ensures { λ _. ⌜ now (row .exit) ≡ laid (λ k. round (atOffset cubic (offset + k)) (natAbs (d .value))) at count (now (row .entry)) ⌝ }
+    ensures { λ _. ⌜ now (row .exit) ≡ steps (startingAt at (λ k. round (atOffset cubic (offset + k)) (natAbs (d .value)))) at count (now (row .entry)) ⌝ }
 {
     if count == 0 {
         return;

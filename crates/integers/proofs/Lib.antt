@@ -13,3 +13,4 @@ pub mod Prepared
 mod Rest
 mod Constants
 pub mod Parameters
+pub mod Stepwise

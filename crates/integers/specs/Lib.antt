@@ -3,3 +3,4 @@ pub mod Floor
 pub mod Round
 pub mod Ratio
 pub mod Constants
+pub mod Stepwise

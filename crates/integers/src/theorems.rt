@@ -2,6 +2,7 @@
 ghost use mathlib.Core.Path.{_≡_};
 ghost use Rattle.integers.specs.Floor.{FloorLaws};
 ghost use Rattle.integers.specs.Round.{RoundingLaws};
+ghost use Rattle.integers.specs.Stepwise.{StepLaws};
 
 pub fn floor_laws() -> u64
     ensures { λ r. ⌜ (r ≡ 0) × FloorLaws ⌝ }
@@ -11,6 +12,12 @@ pub fn floor_laws() -> u64
 
 pub fn rounding_laws() -> u64
     ensures { λ r. ⌜ (r ≡ 0) × RoundingLaws ⌝ }
+{
+    0
+}
+
+pub fn step_laws() -> u64
+    ensures { λ r. ⌜ (r ≡ 0) × StepLaws ⌝ }
 {
     0
 }

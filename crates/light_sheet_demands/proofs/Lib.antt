@@ -9,3 +9,4 @@ pub mod DemandTwo
 pub mod DemandThree
 pub mod Lists
 pub mod Bends
+pub mod Growing

@@ -13,7 +13,7 @@ use Rattle.sheet_slopes.specs.Slopes.{slopeRefusal, withSlopes}
 use Rattle.surface_answers.specs.Answers.{outcome}
 use Rattle.surface_answers.specs.declared.Answer.{Answer}
 use Rattle.surface_of_sheet.specs.Read.{read}
-use Rattle.surface_of_sheet.specs.Run.{filled}
+use Rattle.surface_of_sheet.specs.Run.{afterSteps, filled}
 use Rattle.surface_bends.specs.Bends.{bendsRefusal, tally, counted, withBends}
 use Rattle.surface_bends.specs.declared.Listed.{Listed}
 use Rattle.light_sheet_c.specs.Values.{bits, over, countOver}
@@ -60,6 +60,11 @@ pub record ListBends (s : List ℕ) (x y : ℕ) (buffer : List ℤ) (r : Listed)
 pub record FillRun (s : List ℕ) (x y : ℕ) (row : List ℤ) (n : ℕ) (row′ : List ℤ) (t : List ℕ) : Type 0 where
   pub answer : n ≡ runRefusal s x y (length row)
   pub levels : row′ ≡ filled s x y row
+  pub sheet : t ≡ s
+
+-- the worker of a run, `surface_runs::run`, with a budget of so many steps leaves row′
+pub record RunSteps (s : List ℕ) (x y : ℕ) (row : List ℤ) (budget : ℕ) (row′ : List ℤ) (t : List ℕ) : Type 0 where
+  pub levels : row′ ≡ afterSteps s x y budget row
   pub sheet : t ≡ s
 
 -- the calls for C: five meet the records above, and the three below are theirs alone

@@ -2,3 +2,4 @@ pub mod Contracts
 pub mod Demands
 pub mod Slopes
 pub mod Bends
+pub mod Growing

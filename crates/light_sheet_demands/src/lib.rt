@@ -4,6 +4,7 @@ ghost use mathlib.Core.Path.{_≡_};
 ghost use Rattle.light_sheet_demands.specs.Demands.{DemandOne, DemandTwo, DemandThree};
 ghost use Rattle.light_sheet_demands.specs.Slopes.{SlopeFilling};
 ghost use Rattle.light_sheet_demands.specs.Bends.{BothSides};
+ghost use Rattle.light_sheet_demands.specs.Growing.{RowGrows};
 
 pub fn demand_one() -> u64
     ensures { λ r. ⌜ (r ≡ 0) × DemandOne ⌝ }
@@ -31,6 +32,12 @@ pub fn slope_filling() -> u64
 
 pub fn both_sides() -> u64
     ensures { λ r. ⌜ (r ≡ 0) × BothSides ⌝ }
+{
+    0
+}
+
+pub fn row_grows() -> u64
+    ensures { λ r. ⌜ (r ≡ 0) × RowGrows ⌝ }
 {
     0
 }

@@ -1,3 +1,5 @@
-// Each public call, and each for C, with the record that the demands speak of for its contract: whatever a call gives and leaves is what they are about.
+// Each public call, each for C, and the worker of a run, with the record that the demands speak of for its contract: whatever they give and leave is what the
+// demands are about.
 pub mod calls;
 pub mod calls_for_c;
+pub mod worker;

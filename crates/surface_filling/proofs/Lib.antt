@@ -1,3 +1,2 @@
 pub mod OffMesh
 pub mod Refusal
-pub mod Gathered

@@ -1,15 +1,14 @@
-// Filling a run: its refusals, its levels gathered in a row buffer, and the copy to the caller's row.
+// Filling a run: its refusals, and then its levels, each stored once in the caller's row.
 ghost use mathlib.Core.Path.{_≡_};
-ghost use Prim.Native.Nat.{_≤_};
-ghost use lib.ListN.{length, take};
+ghost use lib.ListN.{length};
 ghost use Rattle.sheet_calls.specs.Refusals.{offMesh, runRefusal, Accepted};
-ghost use Rattle.surface_of_sheet.specs.Run.{levelsAlong, filled};
+ghost use Rattle.surface_of_sheet.specs.Run.{filled};
 use sheet_checking::sheet_refusal;
 use surface_places::outside;
 use surface_runs::run;
 
-// How many slots the row buffer has: no row of pixels is longer, since no line lies beyond 4,096.
-const ROW_SIZE: usize = 4097;
+// How many pixels the longest row has: no line lies beyond 4,096.
+const LONGEST_ROW: usize = 4097;
 
 // Fills the lent row with the levels from (x, y) to the right, one for each slot, and answers 0; or, refused, answers the number and leaves the row as it
 // was.
@@ -17,11 +16,12 @@ pub fn fill_run(sheet: &[u8], x: u32, y: u32, levels: &mut [i32]) -> u32
     ensures answer { λ r. ⌜ r ≡ runRefusal (now (sheet .entry)) x y (length (now (levels .entry))) ⌝ }
     ensures levels { λ r. ⌜ now (levels .exit) ≡ filled (now (sheet .entry)) x y (now (levels .entry)) ⌝ }
 {
-    let refusal = run_refusal(sheet, x, y, levels.len());
+    let count = levels.len();
+    let refusal = run_refusal(sheet, x, y, count);
     if refusal != 0 {
         return refusal;
     }
-    gather(sheet, x, y, levels);
+    run(sheet, x, y, levels, count);
     0
 }
 
@@ -54,30 +54,8 @@ fn off_mesh(sheet: &[u8], x: u32, y: u32, count: usize) -> bool
     if count == 0 {
         return false;
     }
-    if ROW_SIZE < count {
+    if LONGEST_ROW < count {
         return true;
     }
     outside(sheet, x + (count - 1) as u32, y)
-}
-
-// The levels of a run that is not refused, gathered in a row buffer of the call's own and then copied.
-fn gather(sheet: &[u8], x: u32, y: u32, levels: &mut [i32])
-    requires { ⌜ runRefusal (now sheet) x y (length (now levels)) ≡ 0 ⌝ }
-    ensures { λ _. ⌜ now (levels .exit) ≡ levelsAlong (now (sheet .entry)) x y (length (now (levels .entry))) ⌝ }
-{
-    let mut row = [0i32; ROW_SIZE];
-    run(sheet, x, y, &mut row, levels.len());
-    copy(&row, levels);
-}
-
-// Copies as many slots as `to` has.
-fn copy(from: &[i32], to: &mut [i32])
-    requires { ⌜ length (now to) ≤ length (now from) ⌝ }
-    ensures { λ _. ⌜ now (to .exit) ≡ take (length (now (to .entry))) (now (from .entry)) ⌝ }
-{
-    let mut k: usize = 0;
-    while k < to.len() {
-        to[k] = from[k];
-        k += 1;
-    }
 }

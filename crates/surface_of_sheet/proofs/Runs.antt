@@ -1,18 +1,19 @@
 -- What a run leaves: the row as it was where it is refused, else in each slot the level of its pixel. Assumes nothing.
-use Prim.Native.Nat.{ℕ, zero, suc, _+_, _<_}
+use Prim.Native.Nat.{ℕ, zero, suc, _+_, _≤_, _<_}
 use mathlib.Core.Path.{_≡_, refl, sym, _∙_, ap}
 use mathlib.Core.List.{List, [], _∷_, append-nil}
 use native.Mathlib.Decide.{ℕ-discrete}
-use native.Mathlib.Nat.{add-zero, add-suc, suc-add}
+use native.Mathlib.Nat.{add-zero, zero-add, add-suc, suc-add}
 use native.Mathlib.Omega.{arith}
 use lib.IntN.{ℤ, pos}
 use lib.ListN.{length, getD, set}
 use lib.Seq.{drop-length}
 use borrow.Author.Tests.{eq-eqb, ne-eqb}
+use Rattle.integers.specs.Stepwise.{step, steps}
 use Rattle.sheet_calls.specs.Refusals.{runRefusal}
 use Rattle.sheet_calls.proofs.Chains.{run-held, run-taken}
 use Rattle.surface_of_sheet.specs.Surface.{level}
-use Rattle.surface_of_sheet.specs.Run.{levelsAlong, begun, filled}
+use Rattle.surface_of_sheet.specs.Run.{levelsAlong, slotLevel, afterSteps, begun, filled}
 use Rattle.surface_of_sheet.specs.Theorems.{RunLaws}
 
 -- one slot further along is the pixel one further to the right
@@ -21,7 +22,7 @@ next s x y k = ap (λ n. level s n y) (suc-add x k ∙ sym (add-suc x k))
 
 -- ---- the levels along a row
 
-pub levels-length : (s : List ℕ) (x y count : ℕ) → length (levelsAlong s x y count) ≡ count
+levels-length : (s : List ℕ) (x y count : ℕ) → length (levelsAlong s x y count) ≡ count
 unfolding levelsAlong
 levels-length s x y zero = refl
 levels-length s x y (suc count) = ap suc (levels-length s (suc x) y count)
@@ -34,11 +35,11 @@ levels-at s x y (suc count) (suc k) h = levels-at s (suc x) y count k (omega (ar
 
 -- ---- a row of which some slots are done
 
-pub none-done : (s : List ℕ) (x y : ℕ) (row : List ℤ) → begun s x y 0 row ≡ row
+none-done : (s : List ℕ) (x y : ℕ) (row : List ℤ) → begun s x y 0 row ≡ row
 unfolding levelsAlong begun
 none-done s x y row = refl
 
-pub one-more : (s : List ℕ) (x y k : ℕ) (row : List ℤ) → k < length row → begun s x y (suc k) row ≡ set (begun s x y k row) k (level s (x + k) y)
+one-more : (s : List ℕ) (x y k : ℕ) (row : List ℤ) → k < length row → begun s x y (suc k) row ≡ set (begun s x y k row) k (level s (x + k) y)
 unfolding levelsAlong begun
 one-more s x y k [] h = absurd (omega (arith, h))
 one-more s x y zero (z ∷ row) h = rw (add-zero x) refl
@@ -49,12 +50,23 @@ all-done : (s : List ℕ) (x y : ℕ) (row : List ℤ) → begun s x y (length r
 unfolding begun
 all-done s x y row = rw (drop-length row) (append-nil (levelsAlong s x y (length row)))
 
+-- after k steps k slots are done
+steps-begun : (s : List ℕ) (x y k : ℕ) (row : List ℤ) → k ≤ length row → afterSteps s x y k row ≡ begun s x y k row
+unfolding step steps slotLevel
+steps-begun s x y zero row h = sym (none-done s x y row)
+steps-begun s x y (suc k) row h =
+    (λ t. step (slotLevel s x y) (zero-add k t) (steps-begun s x y k row (omega (arith, h)) t)) ∙ sym (one-more s x y k row h)
+
 -- ---- the row of a run
 
 module _ (s : List ℕ) (x y : ℕ) (row : List ℤ) where
-  pub filled-is : runRefusal s x y (length row) ≡ 0 → filled s x y row ≡ levelsAlong s x y (length row)
+  filled-is : runRefusal s x y (length row) ≡ 0 → filled s x y row ≡ levelsAlong s x y (length row)
   unfolding filled
   filled-is e = rw (eq-eqb _ 0 e) refl
+
+  -- it is the row after a step for each slot
+  pub filled-steps : runRefusal s x y (length row) ≡ 0 → filled s x y row ≡ afterSteps s x y (length row) row
+  filled-steps e = filled-is e ∙ sym (steps-begun s x y (length row) row (omega arith) ∙ all-done s x y row)
 
   pub unfilled-is : ¬ (runRefusal s x y (length row) ≡ 0) → filled s x y row ≡ row
   unfolding filled
@@ -78,4 +90,5 @@ run-laws = record {
   none = none-done;
   oneMore = one-more;
   all = all-done;
+  isBegun = steps-begun;
 }

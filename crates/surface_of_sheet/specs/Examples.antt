@@ -8,6 +8,7 @@ use lib.Dec.{T}
 use lib.Ieee.{fin}
 use lib.IntN.{ℤ, pos, negsuc}
 use lib.ListN.{length, replicate}
+use Rattle.integers.specs.Stepwise.{step}
 use Rattle.element_sibson.specs.Piece.{right, bottom, left}
 use Rattle.element_sibson.specs.Element.{+_, −_}
 use Rattle.sheet_calls.specs.Refusals.{runRefusal}
@@ -16,7 +17,7 @@ use Rattle.surface_answers.specs.Answers.{Outcome, answered}
 use Rattle.surface_of_sheet.specs.Place.{seen, touches}
 use Rattle.surface_of_sheet.specs.Surface.{levelAt, bendXXAt, bendYYAt}
 use Rattle.surface_of_sheet.specs.Read.{read}
-use Rattle.surface_of_sheet.specs.Run.{begun, filled}
+use Rattle.surface_of_sheet.specs.Run.{slotLevel, afterSteps, begun, filled}
 
 -- ---- sheets
 
@@ -168,6 +169,10 @@ pub record Examples : Type 0 where
   -- one slot of A's first row done, then two
   pub oneDone : begun sheetA 0 0 1 (sevens 3) ≡ + 64 ∷ + 7 ∷ + 7 ∷ []
   pub twoDone : begun sheetA 0 0 2 (sevens 3) ≡ + 64 ∷ + 32 ∷ + 7 ∷ []
+  -- the same by steps: the first, the second by itself, two one after the other
+  pub firstStep : step (slotLevel sheetA 0 0) 0 (sevens 3) ≡ + 64 ∷ + 7 ∷ + 7 ∷ []
+  pub secondStep : step (slotLevel sheetA 0 0) 1 (sevens 3) ≡ + 7 ∷ + 32 ∷ + 7 ∷ []
+  pub twoSteps : afterSteps sheetA 0 0 2 (sevens 3) ≡ + 64 ∷ + 32 ∷ + 7 ∷ []
   -- as floats: the level 16 of A is 2⁻², its tilt −48, 0 is −3 · 2⁻², +0, its bend 0, 3072, 0 is +0, 3 · 2⁻², +0
   pub level : read sheetA 1 1 0 ≡ record { number = 0; values = fin false 1 (negsuc 1) ∷ [] }
   pub tilt : read sheetA 1 0 1 ≡ record { number = 0; values = fin true 3 (negsuc 1) ∷ fin false 0 (pos 0) ∷ [] }

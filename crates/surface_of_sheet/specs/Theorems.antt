@@ -23,7 +23,7 @@ use Rattle.surface_answers.specs.declared.Answer.the-variants.{Level, Tilt, Ben
 use Rattle.surface_of_sheet.specs.Place.{cellOf, HasCell, place}
 use Rattle.surface_of_sheet.specs.Surface.{nodesOf, setOf, jetAt, level, tiltX, tiltY, bendXX, bendXY, bendYY}
 use Rattle.surface_of_sheet.specs.Read.{exact, read}
-use Rattle.surface_of_sheet.specs.Run.{levelsAlong, begun, filled}
+use Rattle.surface_of_sheet.specs.Run.{levelsAlong, afterSteps, begun, filled}
 
 -- ---- the set we read from
 
@@ -75,6 +75,8 @@ pub record RunLaws : Type 0 where
   pub none : (s : List ℕ) (x y : ℕ) (row : List ℤ) → begun s x y 0 row ≡ row
   pub oneMore : (s : List ℕ) (x y k : ℕ) (row : List ℤ) → k < length row → begun s x y (suc k) row ≡ set (begun s x y k row) k (level s (x + k) y)
   pub all : (s : List ℕ) (x y : ℕ) (row : List ℤ) → begun s x y (length row) row ≡ levelsAlong s x y (length row)
+  -- the row after k steps, for every k up to its length, is the one of which k slots are done
+  pub isBegun : (s : List ℕ) (x y k : ℕ) (row : List ℤ) → k ≤ length row → afterSteps s x y k row ≡ begun s x y k row
 
 -- ---- half a unit
 

@@ -1,11 +1,9 @@
--- The levels that a run lays in one column of cells are those of the strip, and those that it has laid in all are the run's. Assumes nothing.
-use Prim.Native.Nat.{ℕ, zero, suc, _+_, _-_, _≤_, _<_}
+-- The levels that a run stores in one column of cells are those of its strip, and these are what its slots are to hold. Assumes nothing.
+use Prim.Native.Nat.{ℕ, suc, _+_, _-_, _<_}
 use mathlib.Core.Path.{_≡_, refl, sym, _∙_, ap}
 use mathlib.Core.List.{List}
-use native.Mathlib.Nat.{zero-add}
 use native.Mathlib.Omega.{arith}
 use lib.IntN.{ℤ}
-use lib.ListN.{length, set}
 use Rattle.element_sibson.specs.Cubic.{pixel}
 use Rattle.element_sibson.specs.Piece.{pieceAt}
 use Rattle.element_sibson.specs.Element.{CornerNumbers, cornerNumbers, sibson, element}
@@ -17,19 +15,18 @@ use Rattle.element_readings.specs.Reading.{levelOf}
 use Rattle.sheet_layout.specs.Format.{lineX}
 use Rattle.surface_of_sheet.specs.Place.{cellOf, place}
 use Rattle.surface_of_sheet.specs.Surface.{nodesOf, setOf, levelAt, level}
-use Rattle.surface_of_sheet.specs.Run.{begun}
+use Rattle.surface_of_sheet.specs.Run.{slotLevel}
 use Rattle.surface_of_sheet.proofs.Cells.{gap-side, x-rising, y-rising, numbers-within}
-use Rattle.surface_of_sheet.proofs.Runs.{none-done, one-more}
-use Rattle.element_spans.specs.Span.{toRight, cellLevel, laid}
+use Rattle.element_spans.specs.Span.{toRight, cellLevel}
 use Rattle.element_spans.specs.Needs.{FitsCell}
 use Rattle.surface_runs.specs.Strips.{stripAt, stripLevel, doneIn, AtColumn}
 use Rattle.surface_runs.specs.declared.Strip.{Strip}
 use Rattle.surface_runs.proofs.Columns.{strip-cell, column-starts, column-ends, ends}
 
--- the level at (x, y) is that at x in the strip of y
-on-strip : (s : List ℕ) (x y : ℕ) → stripLevel s (stripAt s y) x ≡ level s x y
-unfolding stripLevel stripAt level place
-on-strip s x y = refl
+-- what slot k of the run from (x, y) is to hold is the level at x + k in the strip of y
+pub slot-level : (s : List ℕ) (x y k : ℕ) → stripLevel s (stripAt s y) (x + k) ≡ slotLevel s x y k
+unfolding stripLevel stripAt level place slotLevel
+slot-level s x y k = refl
 
 -- ---- in one column
 
@@ -75,15 +72,3 @@ module _ {s : List ℕ} {t : Strip} {x count done i : ℕ} (at : AtColumn s t x 
       (λ j. levelFrom (held _ e j) (t .height) (across j))
       ∙ (λ j. levelFrom (cornerNumbers (cell width (at .on .height j)) (nodesOf s i (t .row))) (at .on .height j) (x + (done + k) - lineX s i))
       ∙ sym (ap (λ c. seenFrom c (x + (done + k))) (ends at .same k l))
-
--- ---- in all
-
--- slots laid one by one are those of the run
-pub laid-begun : (s : List ℕ) (x y : ℕ) (row : List ℤ) (k : ℕ) → k ≤ length row → laid (λ j. stripLevel s (stripAt s y) (x + j)) 0 k row ≡ begun s x y k row
-unfolding laid
-laid-begun s x y row zero h = sym (none-done s x y row)
-laid-begun s x y row (suc k) h =
-    ap (λ (r : List ℤ). set r (0 + k) (stripLevel s (stripAt s y) (x + k))) (laid-begun s x y row k (omega arith))
-    ∙ ap (λ (j : ℕ). set (begun s x y k row) j (stripLevel s (stripAt s y) (x + k))) (zero-add k)
-    ∙ ap (set (begun s x y k row) k) (on-strip s (x + k) y)
-    ∙ sym (one-more s x y k row h)

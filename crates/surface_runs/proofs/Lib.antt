@@ -1,3 +1,3 @@
 pub mod Columns
 pub mod Levels
-pub mod Underway
+pub mod Turns

@@ -2,11 +2,11 @@
 ghost use mathlib.Core.Path.{_≡_};
 ghost use Prim.Native.Nat.{suc, _+_, _-_, _≤_, _<_};
 ghost use lib.ListN.{length};
+ghost use Rattle.integers.specs.Stepwise.{steps};
 ghost use Rattle.sheet_layout.specs.Format.{columns, lineX};
 ghost use Rattle.sheet_calls.specs.Refusals.{Accepted};
 ghost use Rattle.sheet_calls.specs.WellFormed.{OnMesh};
-ghost use Rattle.surface_of_sheet.specs.Run.{begun};
-ghost use Rattle.element_spans.specs.Span.{laid};
+ghost use Rattle.surface_of_sheet.specs.Run.{afterSteps};
 ghost use Rattle.surface_runs.specs.Strips.{stripLevel, doneIn, AtColumn};
 use element_cell::Pixel;
 use element_spans::fill_cell;
@@ -24,11 +24,11 @@ pub struct Strip {
     pub height: usize,
 }
 
-// Stores the levels of `count` pixels, from (x, y) to the right, in the first slots of the row, strictly from left to right. The other slots keep what
-// they hold.
-pub fn run(sheet: &[u8], x: u32, y: u32, row: &mut [i32], count: usize)
-    requires { ⌜ OnMesh (now sheet) x y count × (count ≤ length (now row)) ⌝ }
-    ensures { λ _. ⌜ now (row .exit) ≡ begun (now (sheet .entry)) x y count (now (row .entry)) ⌝ }
+// Makes the first `budget` steps of the run from (x, y): each stores one level in its slot of the row, strictly from left to right. The other slots keep
+// what they hold.
+pub fn run(sheet: &[u8], x: u32, y: u32, row: &mut [i32], budget: usize)
+    requires { ⌜ OnMesh (now sheet) x y budget × (budget ≤ length (now row)) ⌝ }
+    ensures { λ _. ⌜ now (row .exit) ≡ afterSteps (now (sheet .entry)) x y budget (now (row .entry)) ⌝ }
 {
     let place = read_place(sheet, find(sheet, x, y), x, y);
     let strip = Strip {
@@ -38,8 +38,8 @@ pub fn run(sheet: &[u8], x: u32, y: u32, row: &mut [i32], count: usize)
     };
     let mut column = place.column;
     let mut done: usize = 0;
-    while done < count {
-        done = fill_column(sheet, strip, column, x as usize, row, done, count);
+    while done < budget {
+        done = fill_column(sheet, strip, column, x as usize, row, done, budget);
         column += 1;
     }
 }
@@ -56,7 +56,7 @@ fn fill_column(
 ) -> usize
     requires { ⌜ AtColumn (now sheet) strip x count done column × (count ≤ length (now row)) ⌝ }
     ensures answer { λ r. ⌜ r ≡ doneIn (now (sheet .entry)) x column count ⌝ }
-    ensures row { λ r. ⌜ now (row .exit) ≡ laid (λ k. stripLevel (now (sheet .entry)) strip (x + (done + k))) done (r - done) (now (row .entry)) ⌝ }
+    ensures row { λ r. ⌜ now (row .exit) ≡ steps (λ k. stripLevel (now (sheet .entry)) strip (x + k)) done (r - done) (now (row .entry)) ⌝ }
 {
     let left = line_x(sheet, column) as usize;
     let right = line_x(sheet, column + 1) as usize;

@@ -9,19 +9,20 @@ use lib.IntN.{ℤ, natAbs}
 use lib.ListN.{length}
 use mir.Syntax.{w64}
 use Rattle.integers.specs.Round.{round}
+use Rattle.integers.specs.Stepwise.{steps, startingAt}
 use Rattle.integers.specs.Constants.{constants}
 use Rattle.integers.proofs.Operand.{Operand, returned}
+use Rattle.integers.proofs.Stepwise.{steps-length, steps-same, starting-at, starting-more}
 use Rattle.element_sibson.specs.Piece.{left, right}
 use Rattle.element_cell.specs.Corners.{corners}
 use Rattle.element_cell.specs.Pieces.{pieceOf}
 use Rattle.element_cell.specs.declared.Pixel.{Pixel}
 use Rattle.element_row_cubic.specs.Row.{atOffset}
 use Rattle.element_row_cubic.proofs.Denominators.{denominates}
-use Rattle.element_spans.specs.Span.{toRight, cellLevel, laid}
+use Rattle.element_spans.specs.Span.{toRight, cellLevel}
 use Rattle.element_spans.specs.Ends.{middleOf, endsOf}
 use Rattle.element_spans.specs.Needs.{FitsAlong}
 use Rattle.element_spans.proofs.Cubics.{Span, denominatorOf, levels-are, levels-fit}
-use Rattle.element_spans.proofs.Laid.{laid-length, laid-same, laid-more}
 use Rattle.element_spans.proofs.Parted.{Parted, ordered, left-piece, middle-piece, right-piece}
 use Rattle.element_spans.proofs.fill_cell.Statement.{statement}
 use Rattle.element_spans.proofs.fill_cell.Tie as tie
@@ -101,18 +102,20 @@ abbrev levels : List (List ℤ) → Pixel → ℕ → ℤ
 levels n p k = cellLevel (corners n) (toRight p k)
 
 module _ (c : tie.After-fill-levels) where
-  row₁ : let a = start (first (c .before)) .args in c .fill-levels .last .0 ≡ laid (levels (a .n) (a .first)) (a .at) (lefts (first (c .before))) (a .row .now)
+  row₁ : let a = start (first (c .before)) .args in c .fill-levels .last .0 ≡ steps (startingAt (a .at) (levels (a .n) (a .first))) (a .at) (lefts (first (c .before))) (a .row .now)
   row₁ = let l = c .before in let s = start (first l) in let a = s .args in let v = first l .before .before .before .new .result .value in
-      c .fill-levels .ensures ∙ laid-same _ _ (a .at) (lefts (first l)) _ (λ k h.
-      ap (λ o. round (atOffset (l .cubic .result) (o + k)) (natAbs v)) (sym (add-zero (a .first .a)))
+      c .fill-levels .ensures ∙ steps-same _ _ (a .at) (lefts (first l)) _ (λ k h.
+      starting-at (a .at) _ k
+      ∙ ap (λ o. round (atOffset (l .cubic .result) (o + k)) (natAbs v)) (sym (add-zero (a .first .a)))
       ∙ levels-are (s .pre .0) (s .pre .1) (divisor (first l)) (span₁ l) k h
-      ∙ ap (levels (a .n) (a .first)) (zero-add k))
+      ∙ ap (levels (a .n) (a .first)) (zero-add k)
+      ∙ sym (starting-at (a .at) (levels (a .n) (a .first)) k))
 
 module _ (c : tie.After-fill-levels2) where
   row₂ : let a = start (second (c .before)) .args in
-      c .fill-levels2 .last .0 ≡ laid (levels (a .n) (a .first)) (a .at) (lefts (second (c .before)) + (both (second (c .before)) - lefts (second (c .before)))) (a .row .now)
+      c .fill-levels2 .last .0 ≡ steps (startingAt (a .at) (levels (a .n) (a .first))) (a .at) (lefts (second (c .before)) + (both (second (c .before)) - lefts (second (c .before)))) (a .row .now)
   row₂ = let l = c .before in let s = start (second l) in let a = s .args in
-      laid-more (levels (a .n) (a .first)) _ (a .at) (lefts (second l)) (both (second l) - lefts (second l)) (a .row .now)
+      starting-more (levels (a .n) (a .first)) _ (a .at) (lefts (second l)) (both (second l) - lefts (second l)) (a .row .now)
       (row₁ (l .before .before .before)) (c .fill-levels2 .ensures) (levels-are (s .pre .0) (s .pre .1) (divisor (second l)) (span₂ l))
 
 fill-levels-requires : tie.Need-fill-levels-requires
@@ -133,7 +136,7 @@ sub-fill-levels c = in-order (c .before .before .before .before .before) .0
 fill-levels-requires-2 : tie.Need-fill-levels-requires-2
 fill-levels-requires-2 c κs = let s = start (second c) in (
   levels-fit (s .pre .0) (s .pre .1) (divisor (second c)) (span₂ c),
-  omega (arith, s .pre .2, in-order (second c), ap length (row₁ (c .before .before .before)) ∙ laid-length _ _ _ _),
+  omega (arith, s .pre .2, in-order (second c), ap length (row₁ (c .before .before .before)) ∙ steps-length _ _ _ _),
 )
 
 add-fill-levels-4 : tie.Need-add-fill-levels-4
@@ -142,15 +145,15 @@ add-fill-levels-4 c = let s = start (third c) in record { fits = omega (arith, s
 fill-levels-requires-3 : tie.Need-fill-levels-requires-3
 fill-levels-requires-3 c κs = let s = start (third c) in (
   levels-fit (s .pre .0) (s .pre .1) (divisor (third c)) (span₃ c),
-  omega (arith, s .pre .2, in-order (third c), ap length (row₂ (c .before .before .before)) ∙ laid-length _ _ _ _),
+  omega (arith, s .pre .2, in-order (third c), ap length (row₂ (c .before .before .before)) ∙ steps-length _ _ _ _),
 )
 
 returns : tie.Need-returns
 returns c = let l = c .before .before in let b = third l in let s = start b in let a = s .args in let f = levels (a .n) (a .first) in
-    laid-more f _ (a .at) (both b) (a .count - both b) (a .row .now)
-    (row₂ (l .before .before .before) ∙ ap (λ n. laid f (a .at) n (a .row .now)) (omega (arith, in-order b)))
+    starting-more f _ (a .at) (both b) (a .count - both b) (a .row .now)
+    (row₂ (l .before .before .before) ∙ ap (λ n. steps (startingAt (a .at) f) (a .at) n (a .row .now)) (omega (arith, in-order b)))
     (c .before .fill-levels3 .ensures) (levels-are (s .pre .0) (s .pre .1) (divisor b) (span₃ l))
-    ∙ ap (λ n. laid f (a .at) n (a .row .now)) (omega (arith, in-order b))
+    ∙ ap (λ n. steps (startingAt (a .at) f) (a .at) n (a .row .now)) (omega (arith, in-order b))
 
 pub fill-cell-spec : {M : Type 1} → statement M
 fill-cell-spec =

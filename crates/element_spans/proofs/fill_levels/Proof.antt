@@ -9,14 +9,14 @@ use lib.IntN.{ℤ, pos, natAbs}
 use lib.ListN.{length, getD}
 use mir.Syntax.{w32, w64}
 use Rattle.integers.specs.Round.{round}
+use Rattle.integers.specs.Stepwise.{startingAt, Underway}
 use Rattle.integers.specs.declared.Denominator.{Denominator}
 use Rattle.integers.proofs.Operand.{Operand, known, unchanged}
+use Rattle.integers.proofs.Stepwise.{starting-at, begins, same-length, goes-on, ends}
 use Rattle.element_row_cubic.specs.Row.{atOffset}
 use Rattle.element_row_cubic.specs.Steps.{differences, stepped, Steps}
 use Rattle.element_row_cubic.proofs.Rises.{steps-on, may-step}
-use Rattle.element_spans.specs.Span.{laid}
 use Rattle.element_spans.specs.Needs.{FitsAt}
-use Rattle.element_spans.proofs.Laid.{laid-length, laid-none, laid-next, laid-all}
 use Rattle.element_spans.proofs.fill_levels.Statement.{statement}
 use Rattle.element_spans.proofs.fill_levels.Tie as tie
 
@@ -27,7 +27,7 @@ level cubic offset d k = round (atOffset cubic (offset + k)) (natAbs (d .value))
 -- of every cubic with the differences that the loop starts from
 abbrev Inv-loop : tie.InvT-loop
 Inv-loop row₀ at count offset d z₀ k₀ row z k =
-    (k ≤ count) × ((p : List ℤ) → z₀ ≡ differences p offset → (z ≡ differences p (offset + k)) × (row ≡ laid (level p offset d) at k row₀))
+    (p : List ℤ) → z₀ ≡ differences p offset → Underway (startingAt at (level p offset d)) at count row₀ row k × (z ≡ differences p (offset + k))
 
 abbrev μ-loop : tie.MeasureT-loop
 μ-loop row₀ at count offset d z₀ k₀ row z k = count - k
@@ -40,20 +40,21 @@ module _ (c : tie.At-loop Inv-loop μ-loop) where
   abbrev start : tie.Start Inv-loop μ-loop
   start = c .before .before .before
 
-  -- what the loop has, of the cubic that was lent
-  held : let a = start .args in (c .loop .z ≡ differences (a .cubic) (a .offset + c .loop .k)) × (c .loop .row ≡ laid (level (a .cubic) (a .offset) (a .d)) (a .at) (c .loop .k) (a .row .now))
-  held = c .loop .inv .1 (start .args .cubic) (c .before .differences .ensures)
+  -- what the loop has, of the row and the cubic that were lent
+  held : let a = start .args in
+      Underway (startingAt (a .at) (level (a .cubic) (a .offset) (a .d))) (a .at) (a .count) (a .row .now) (c .loop .row) (c .loop .k) × (c .loop .z ≡ differences (a .cubic) (a .offset + c .loop .k))
+  held = c .loop .inv (start .args .cubic) (c .before .differences .ensures)
 
   -- the row keeps its length
   kept : length (c .loop .row) ≡ length (start .args .row .now)
-  kept = ap length (held .1) ∙ laid-length _ _ _ _
+  kept = same-length (held .0)
 
 module _ (c : tie.In-loop Inv-loop μ-loop) where
   asked : let a = start (c .before) .args in FitsAt (a .cubic) (a .offset + c .before .loop .k) (a .d)
   asked = start (c .before) .pre .0 (c .before .loop .k) (c .loop-test .taken)
 
   may : Steps (c .before .loop .z)
-  may = subst⁻¹ Steps (held (c .before) .0) (may-step (start (c .before) .args .cubic) (asked .reached) (asked .near))
+  may = subst⁻¹ Steps (held (c .before) .1) (may-step (start (c .before) .args .cubic) (asked .reached) (asked .near))
 
   abbrev value : Operand
   value = known w64 (may .value) tt
@@ -63,28 +64,26 @@ unfolding differences
 value-is p a e = ap (λ z. getD z 0 (pos 0)) e
 
 returns : tie.Need-returns Inv-loop μ-loop
-returns c = laid-all _ _ _ (search needs) (omega (arith, c .if1 .taken)) (laid-none _ _ _)
+returns c = ends begins (omega (arith, c .if1 .taken))
 
 differences-requires : tie.Need-differences-requires Inv-loop μ-loop
 differences-requires c κs = let l = c .before .pre .0 0 (omega (arith, c .if1 .left)) in (omega (arith, l .near), l .reached)
 
 rounded-level-requires : tie.Need-rounded-level-requires Inv-loop μ-loop
-rounded-level-requires c κs = let l = c .before in rw (value l .reads, value-is (start (l .before) .args .cubic) _ (held (l .before) .0)) (asked l .level)
+rounded-level-requires c κs = let l = c .before in rw (value l .reads, value-is (start (l .before) .args .cubic) _ (held (l .before) .1)) (asked l .level)
 
 slice-set-from-row : tie.Need-slice-set-from-row Inv-loop μ-loop
 slice-set-from-row c = let l = c .before .before in omega (arith, kept (l .before), l .loop-test .taken, start (l .before) .pre .1)
 
 loop-again : tie.Need-loop-again Inv-loop μ-loop
-loop-again c = let l = c .before .before .before in let a = start (l .before) .args in let k = l .before .loop .k in (
-  search needs,
-  λ p e. let h = l .before .loop .inv .1 p e in (
-    c .stepped .ensures ∙ ap stepped (h .0) ∙ steps-on p (a .offset + k) ∙ ap (λ n. differences p n) (add-assoc (a .offset) k 1),
-    laid-next _ _ _ _ (h .1) (unchanged w32 (c .before .rounded-level .ok) ∙ c .before .rounded-level .ensures ∙ ap (λ z. round z (natAbs (a .d .value))) (value l .reads ∙ value-is p _ (h .0))),
-  ),
-)
+loop-again c = let l = c .before .before .before in let a = start (l .before) .args in let k = l .before .loop .k in
+    λ p e. let h = l .before .loop .inv p e in (
+      goes-on (h .0) (l .loop-test .taken) (unchanged w32 (c .before .rounded-level .ok) ∙ c .before .rounded-level .ensures ∙ ap (λ z. round z (natAbs (a .d .value))) (value l .reads ∙ value-is p _ (h .1)) ∙ sym (starting-at (a .at) (level p (a .offset) (a .d)) k)),
+      c .stepped .ensures ∙ ap stepped (h .1) ∙ steps-on p (a .offset + k) ∙ ap (λ n. differences p n) (add-assoc (a .offset) k 1),
+    )
 
 returns-2 : tie.Need-returns-2 Inv-loop μ-loop
-returns-2 c = let i = c .before .loop .inv in laid-all _ _ _ (i .0) (c .loop-test .left) (held (c .before) .1)
+returns-2 c = ends (held (c .before) .0) (c .loop-test .left)
 
 pub fill-levels-spec : {M : Type 1} → statement M
 fill-levels-spec =
@@ -94,7 +93,7 @@ fill-levels-spec =
     μ-loop
     returns
     differences-requires
-    (λ c. (search needs, λ p e. (none p _ e, laid-none _ _ _)))
+    (λ c p e. (begins, none p _ e))
     (λ c. search needs)
     rounded-level-requires
     (λ c. record { fits = omega (arith, asked (c .before .before) .near) })

@@ -8,6 +8,8 @@ use native.Mathlib.Numerals.{add-one}
 use native.Mathlib.Omega.{arith}
 use borrow.Author.Needs.{needs}
 use lib.IntN.{ℤ}
+use Rattle.integers.specs.Stepwise.{steps, startingAt}
+use Rattle.integers.proofs.Stepwise.{steps-same, starting-at}
 use Rattle.element_sibson.specs.Element.{cornerNumbers}
 use Rattle.element_cell.specs.Cell.{cell}
 use Rattle.element_cell.specs.Corners.{corners, arrays, largest, AllWithin}
@@ -19,8 +21,7 @@ use Rattle.surface_of_sheet.specs.Place.{HasCell}
 use Rattle.surface_of_sheet.proofs.Cells.{sound, x-rising}
 use Rattle.element_spans.specs.Needs.{FitsCell}
 use Rattle.surface_of_sheet.specs.Surface.{nodesOf}
-use Rattle.element_spans.specs.Span.{toRight, cellLevel, laid}
-use Rattle.element_spans.proofs.Laid.{laid-same}
+use Rattle.element_spans.specs.Span.{toRight, cellLevel}
 use Rattle.surface_runs.specs.Strips.{doneIn, OnStrip}
 use Rattle.surface_runs.proofs.Columns.{run-near, strip-cell, column-starts, column-ends, Ends, ends}
 use Rattle.surface_runs.proofs.Levels.{nextPixel, pixels-fit, column-within, column-levels}
@@ -113,8 +114,8 @@ returns : tie.Need-returns
 returns c = let f = c .before in let a = f .before in let d = a .before .before in let s = d .before .before .before .before in (
   d .done-in .ensures,
   f .fill-cell .ensures
-      ∙ (λ j. laid (λ k. cellLevel (corners (a .before .corner-numbers .result)) (toRight (pixel-is a j) k)) (s .args .done) (d .done-in .result - s .args .done) (now (s .args .row)))
-      ∙ laid-same _ _ _ _ _ (λ k l. column-levels (s .pre .0) (corner a) k (omega (arith, l, d .done-in .ensures))),
+      ∙ (λ j. steps (startingAt (s .args .done) (λ k. cellLevel (corners (a .before .corner-numbers .result)) (toRight (pixel-is a j) k))) (s .args .done) (d .done-in .result - s .args .done) (now (s .args .row)))
+      ∙ steps-same _ _ _ _ _ (λ k l. starting-at (s .args .done) _ k ∙ column-levels (s .pre .0) (corner a) k (omega (arith, l, d .done-in .ensures))),
 )
 
 pub fill-column-spec : {M : Type 1} → statement M
