@@ -26,7 +26,8 @@ use Rattle.element_row_cubic.proofs.Denominators.{denominates}
 use Rattle.element_row_cubic.proofs.Heights.{row-laws}
 use Rattle.element_row_cubic.proofs.RowBounds.{row-reach}
 use Rattle.element_spans.specs.Span.{toRight, pixelPiece, cellLevel}
-use Rattle.element_spans.specs.Needs.{FitsCell, FitsAlong}
+use Rattle.element_levels.specs.Needs.{FitsAlong}
+use Rattle.element_spans.specs.Needs.{FitsCell}
 use Rattle.element_spans.proofs.InRow.{inside-right}
 
 -- a level lies strictly between −2²⁰ and 2²⁰

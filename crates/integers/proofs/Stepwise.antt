@@ -8,7 +8,7 @@ use native.Mathlib.Numerals.{add-one}
 use native.Mathlib.Omega.{arith}
 use lib.IntN.{ℤ}
 use lib.ListN.{length, getD, set, length-set}
-use Rattle.integers.specs.Stepwise.{step, steps, startingAt, Underway, StepLaws}
+use Rattle.integers.specs.Stepwise.{step, steps, startingAt, Underway, StepwiseLaws}
 
 pub steps-length : (f : ℕ → ℤ) (from count : ℕ) (row : List ℤ) → length (steps f from count row) ≡ length row
 unfolding step steps
@@ -41,18 +41,18 @@ set-beside (x ∷ l) zero (suc k) a z h = refl
 set-beside (x ∷ l) (suc i) zero a z h = refl
 set-beside (x ∷ l) (suc i) (suc k) a z h = set-beside l i k a z (λ e. h (ap suc e))
 
--- a slot that no step has set
+-- a slot that no step has set, and one that has had its step
 untouched : (f : ℕ → ℤ) (from count : ℕ) (row : List ℤ) (k : ℕ) → ((j : ℕ) → j < count → ¬ (k ≡ from + j)) → (z : ℤ) → getD (steps f from count row) k z ≡ getD row k z
 unfolding step steps
 untouched f from zero row k h z = refl
 untouched f from (suc n) row k h z =
     set-beside (steps f from n row) (from + n) k (f (from + n)) z (h n (omega arith)) ∙ untouched f from n row k (λ j l. h j (omega arith)) z
 
-stepped : (f : ℕ → ℤ) (from count : ℕ) (row : List ℤ) (k : ℕ) → from ≤ k → k < from + count → k < length row → (z : ℤ) → getD (steps f from count row) k z ≡ f k
+slot-done : (f : ℕ → ℤ) (from count : ℕ) (row : List ℤ) (k : ℕ) → from ≤ k → k < from + count → k < length row → (z : ℤ) → getD (steps f from count row) k z ≡ f k
 unfolding step steps
-stepped f from zero row k low high fits z = absurd (omega (arith, low, high))
-stepped f from (suc n) row k low high fits z = elim (decLt k (from + n)) [
-  | yes h ↦ set-beside (steps f from n row) (from + n) k (f (from + n)) z (λ e. absurd (omega (arith, h, e))) ∙ stepped f from n row k low h fits z
+slot-done f from zero row k low high fits z = absurd (omega (arith, low, high))
+slot-done f from (suc n) row k low high fits z = elim (decLt k (from + n)) [
+  | yes h ↦ set-beside (steps f from n row) (from + n) k (f (from + n)) z (λ e. absurd (omega (arith, h, e))) ∙ slot-done f from n row k low h fits z
   | no h ↦ let last : from + n ≡ k = omega (arith, high, h) in
       rw last (set-there (steps f from n row) k (f k) z (rw (steps-length f from n row) fits))
 ]
@@ -95,14 +95,14 @@ module _ {f : ℕ → ℤ} {from count : ℕ} {row₀ : List ℤ} where
     pub ends : count ≤ k → row ≡ steps f from count row₀
     ends h = u .stepped ∙ ap (λ n. steps f from n row₀) (omega (arith, u .most, h))
 
-pub step-laws : StepLaws
+pub stepwise-laws : StepwiseLaws
 unfolding step steps
-step-laws = record {
+stepwise-laws = record {
   size = steps-length;
   none = λ f from row. refl;
   oneMore = λ f from k row. refl;
   through = steps-through;
-  done = stepped;
+  done = slot-done;
   before = λ f from count row k h. untouched f from count row k (λ j l e. absurd (omega (arith, h, e)));
   behind = λ f from count row k h. untouched f from count row k (λ j l e. absurd (omega (arith, h, l, e)));
 }

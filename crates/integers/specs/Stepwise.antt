@@ -18,12 +18,12 @@ steps f from (suc k) row = step f (from + k) (steps f from k row)
 unfoldable pub startingAt : ℕ → (ℕ → ℤ) → ℕ → ℤ
 startingAt slot f k = f (k - slot)
 
--- a loop of `count` steps from slot `from` on, at the start of a turn: it has made k of them, and the row that it started with is the one after k steps now
+-- a loop of `count` steps from slot `from` on, at the start of a turn: it has made k of them, and its row, row₀ when it started, is the one after k steps now
 pub record Underway (f : ℕ → ℤ) (from count : ℕ) (row₀ row : List ℤ) (k : ℕ) : Type 0 where
   pub most : k ≤ count
   pub stepped : row ≡ steps f from k row₀
 
-pub record StepLaws : Type 0 where
+pub record StepwiseLaws : Type 0 where
   -- a row keeps its length
   pub size : (f : ℕ → ℤ) (from count : ℕ) (row : List ℤ) → length (steps f from count row) ≡ length row
   -- before the first step it is as it was, and one step more is one slot more

@@ -2,7 +2,7 @@
 ghost use mathlib.Core.Path.{_≡_};
 ghost use Rattle.integers.specs.Floor.{FloorLaws};
 ghost use Rattle.integers.specs.Round.{RoundingLaws};
-ghost use Rattle.integers.specs.Stepwise.{StepLaws};
+ghost use Rattle.integers.specs.Stepwise.{StepwiseLaws};
 
 pub fn floor_laws() -> u64
     ensures { λ r. ⌜ (r ≡ 0) × FloorLaws ⌝ }
@@ -16,8 +16,8 @@ pub fn rounding_laws() -> u64
     0
 }
 
-pub fn step_laws() -> u64
-    ensures { λ r. ⌜ (r ≡ 0) × StepLaws ⌝ }
+pub fn stepwise_laws() -> u64
+    ensures { λ r. ⌜ (r ≡ 0) × StepwiseLaws ⌝ }
 {
     0
 }

@@ -5,14 +5,14 @@ use mathlib.Core.List.{List}
 use native.Mathlib.Nat.{zero-add}
 use native.Mathlib.Omega.{arith}
 use lib.IntN.{ℤ, pos}
-use lib.ListN.{length, getD, set}
+use lib.ListN.{length, set}
 use Rattle.integers.specs.Stepwise.{step, steps, Underway}
-use Rattle.integers.proofs.Stepwise.{steps-same, step-laws}
+use Rattle.integers.proofs.Stepwise.{steps-same, stepwise-laws}
 use Rattle.element_readings.specs.Reading.{levelOf, rounded}
 use Rattle.surface_of_sheet.specs.Surface.{levelAt, level}
 use Rattle.surface_of_sheet.specs.Run.{slotLevel, afterSteps}
 use Rattle.surface_of_sheet.proofs.Runs.{filled-steps, run-laws}
-use Rattle.light_sheet_demands.specs.Contracts.{FillRun, RunSteps}
+use Rattle.light_sheet_demands.specs.Contracts.{FillRun}
 use Rattle.light_sheet_demands.specs.Demands.{pixelJet}
 use Rattle.light_sheet_demands.specs.Growing.{AfterSteps, RowGrows}
 
@@ -24,18 +24,18 @@ slot-is s x y k = refl
 module _ (s : List ℕ) (x y : ℕ) where
   after : (k : ℕ) (row : List ℤ) → k ≤ length row → AfterSteps s x y row k (afterSteps s x y k row)
   after k row h = record {
-    size = step-laws .size _ _ _ _;
-    levels = λ j l. step-laws .done (slotLevel s x y) 0 k row j (omega arith) (omega (arith, l)) (omega (arith, h, l)) (pos 0) ∙ slot-is s x y j;
-    others = λ j l. step-laws .behind (slotLevel s x y) 0 k row j (omega (arith, l));
+    size = stepwise-laws .size _ _ _ _;
+    levels = λ j l. stepwise-laws .done (slotLevel s x y) 0 k row j (omega arith) (omega (arith, l)) (omega (arith, h, l)) (pos 0) ∙ slot-is s x y j;
+    others = λ j l. stepwise-laws .behind (slotLevel s x y) 0 k row j (omega (arith, l));
   }
 
   one-more : (k : ℕ) (row : List ℤ) → afterSteps s x y (suc k) row ≡ step (slotLevel s x y) k (afterSteps s x y k row)
   unfolding step
-  one-more k row = step-laws .oneMore (slotLevel s x y) 0 k row ∙ ap (λ n. step (slotLevel s x y) n (afterSteps s x y k row)) (zero-add k)
+  one-more k row = stepwise-laws .oneMore (slotLevel s x y) 0 k row ∙ ap (λ n. step (slotLevel s x y) n (afterSteps s x y k row)) (zero-add k)
 
   -- n steps, and m from there on
   on : (n m : ℕ) (row : List ℤ) → afterSteps s x y (n + m) row ≡ steps (slotLevel s x y) n m (afterSteps s x y n row)
-  on n m row = step-laws .through (slotLevel s x y) 0 n m row ∙ ap (λ k. steps (slotLevel s x y) k m (afterSteps s x y n row)) (zero-add n)
+  on n m row = stepwise-laws .through (slotLevel s x y) 0 n m row ∙ ap (λ k. steps (slotLevel s x y) k m (afterSteps s x y n row)) (zero-add n)
 
   through : (n k : ℕ) (row : List ℤ) → n ≤ k → afterSteps s x y k row ≡ steps (slotLevel s x y) n (k - n) (afterSteps s x y n row)
   through n k row h = ap (λ j. afterSteps s x y j row) (omega (arith, h)) ∙ on n (k - n) row
@@ -53,7 +53,7 @@ pub row-grows : RowGrows
 unfolding step
 row-grows = record {
   store = λ s x y k row. ap (set row k) (slot-is s x y k);
-  none = λ s x y row. step-laws .none (slotLevel s x y) 0 row;
+  none = λ s x y row. stepwise-laws .none (slotLevel s x y) 0 row;
   oneMore = one-more;
   after = after;
   isBegun = run-laws .isBegun;

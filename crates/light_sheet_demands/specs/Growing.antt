@@ -37,7 +37,7 @@ pub record RowGrows : Type 0 where
   pub through : {s t : List ℕ} {x y : ℕ} {row row′ : List ℤ} → FillRun s x y row 0 row′ t → (k : ℕ) → k ≤ length row →
       row′ ≡ steps (slotLevel s x y) k (length row - k) (afterSteps s x y k row)
   pub refused : {s t : List ℕ} {x y n : ℕ} {row row′ : List ℤ} → FillRun s x y row n row′ t → ¬ (n ≡ 0) → row′ ≡ row
-  -- A contract speaks of a call's start and end. Of the rows between: a run stores in one place of the code, the loop of `element_spans::fill_levels`; at each turn
+  -- A contract speaks of a call's start and end. Of the rows between: a run stores in one place of the code, the loop of `element_levels::fill_levels`; at each turn
   -- this loop, and that of `surface_runs::run` around it, is `Underway`, which is its invariant. Started with the row after n steps of the run, and having made k
   -- steps to what the run's slots are to hold, it has the row after n + k. That the compiled library goes through these rows alone is watched (tests/grows)
   pub between : (s : List ℕ) (x y n count k : ℕ) (f : ℕ → ℤ) (row row′ : List ℤ) → Underway f n count (afterSteps s x y n row) row′ k →

@@ -44,7 +44,7 @@ pub fn run(sheet: &[u8], x: u32, y: u32, row: &mut [i32], budget: usize)
     }
 }
 
-// Goes on with a run through one column of cells, and answers how many pixels are done then.
+// Goes on with a run of `count` pixels, its budget, through one column of cells, and answers how many of them are done then.
 fn fill_column(
     sheet: &[u8],
     strip: Strip,

@@ -21,7 +21,7 @@ use Rattle.element_row_cubic.specs.Row.{atOffset}
 use Rattle.element_row_cubic.proofs.Denominators.{denominates}
 use Rattle.element_spans.specs.Span.{toRight, cellLevel}
 use Rattle.element_spans.specs.Ends.{middleOf, endsOf}
-use Rattle.element_spans.specs.Needs.{FitsAlong}
+use Rattle.element_levels.specs.Needs.{FitsAlong}
 use Rattle.element_spans.proofs.Cubics.{Span, denominatorOf, levels-are, levels-fit}
 use Rattle.element_spans.proofs.Parted.{Parted, ordered, left-piece, middle-piece, right-piece}
 use Rattle.element_spans.proofs.fill_cell.Statement.{statement}

@@ -1,5 +1,5 @@
--- `element_spans::fill_levels` meets its contract. Assumes nothing.
-use Prim.Native.Nat.{ℕ, _+_, _-_, _≤_}
+-- `element_levels::fill_levels` meets its contract. Assumes nothing.
+use Prim.Native.Nat.{ℕ, _+_, _-_}
 use mathlib.Core.Path.{_≡_, sym, _∙_, ap, subst⁻¹}
 use mathlib.Core.List.{List}
 use native.Mathlib.Nat.{add-zero, add-assoc}
@@ -16,9 +16,9 @@ use Rattle.integers.proofs.Stepwise.{starting-at, begins, same-length, goes-on,
 use Rattle.element_row_cubic.specs.Row.{atOffset}
 use Rattle.element_row_cubic.specs.Steps.{differences, stepped, Steps}
 use Rattle.element_row_cubic.proofs.Rises.{steps-on, may-step}
-use Rattle.element_spans.specs.Needs.{FitsAt}
-use Rattle.element_spans.proofs.fill_levels.Statement.{statement}
-use Rattle.element_spans.proofs.fill_levels.Tie as tie
+use Rattle.element_levels.specs.Needs.{FitsAt}
+use Rattle.element_levels.proofs.fill_levels.Statement.{statement}
+use Rattle.element_levels.proofs.fill_levels.Tie as tie
 
 -- the level at the offset k further on
 abbrev level : List ℤ → ℕ → Denominator → ℕ → ℤ

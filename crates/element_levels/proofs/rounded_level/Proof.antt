@@ -1,12 +1,12 @@
--- `element_spans::rounded_level` meets its contract. Assumes nothing.
+-- `element_levels::rounded_level` meets its contract. Assumes nothing.
 use mathlib.Core.Path.{_∙_, ap}
 use lib.IntN.{natAbs}
 use mir.Syntax.{w32, w64}
 use Rattle.integers.specs.Round.{round}
 use Rattle.integers.proofs.Operand.{Operand, any, returned, asks, gives}
 use Rattle.integers.proofs.Prepared.{rounded-in-reach}
-use Rattle.element_spans.proofs.rounded_level.Statement.{statement}
-use Rattle.element_spans.proofs.rounded_level.Tie as tie
+use Rattle.element_levels.proofs.rounded_level.Statement.{statement}
+use Rattle.element_levels.proofs.rounded_level.Tie as tie
 
 abbrev n : tie.Start → Operand
 n s = any w64 (s .fits .n)
