@@ -104,25 +104,26 @@ static size_t write_sheet(uint8_t *sheet, const uint16_t *lines[2], const uint8_
     return at;
 }
 
-/* Cells of all sorts, narrow, wide, high and flat: runs over the whole mesh and parts of it. */
+/* Cells of all sorts, narrow, wide, high and flat: a run below the mesh, runs over the whole of it and parts of it. */
 static void cells(uint8_t *sheet) {
     static const uint16_t x[] = {3, 4, 11, 75, 90}, y[] = {0, 1, 6, 70, 79};
     size_t len = write_sheet(sheet, (const uint16_t *[]){x, y}, (const uint8_t[]){5, 5});
-    for (uint32_t j = 0; j <= 79; j += 1 + j / 4) run(sheet, len, 3, j, 88, LVS_DONE);
-    for (uint32_t i = 3; i <= 79; i += 1 + i / 4) run(sheet, len, i, i, 1 + (90 - i) / 2, LVS_DONE);
+    run(sheet, len, 3, 80, 88, LVS_OUTSIDE);
+    for (uint32_t j = 0; j <= 79; j += 1 + j / 2) run(sheet, len, 3, j, 88, LVS_DONE);
+    for (uint32_t i = 3; i <= 79; i += 1 + i / 2) run(sheet, len, i, i, 1 + (90 - i) / 2, LVS_DONE);
     run(sheet, len, 90, 79, 1, LVS_DONE);
 }
 
-/* The longest row, and a run for each condition that refuses one. */
+/* A run for each condition that refuses one, and the longest row. */
 static void longest(uint8_t *sheet) {
     static uint16_t x[65], y[] = {0, 33};
     for (uint16_t k = 0; k < 65; k++) x[k] = (uint16_t)(64 * k);
     size_t len = write_sheet(sheet, (const uint16_t *[]){x, y}, (const uint8_t[]){65, 2});
-    run(sheet, len, 0, 7, LVS_MAX_RUN, LVS_DONE);
     run(sheet, len, 0, 34, LVS_MAX_RUN, LVS_OUTSIDE);
     run(sheet, len, 1, 7, LVS_MAX_RUN, LVS_OUTSIDE);
     run(sheet, len, 1, 7, 0, LVS_EMPTY_RUN);
     run(sheet, len - 1, 0, 7, LVS_MAX_RUN, LVS_LENGTH);
+    run(sheet, len, 0, 7, LVS_MAX_RUN, LVS_DONE);
     word(sheet, len - 2, 4096);
     run(sheet, len, 0, 7, LVS_MAX_RUN, LVS_NODES);
     word(sheet, 8, 64);

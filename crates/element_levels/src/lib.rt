@@ -25,11 +25,11 @@ pub fn fill_levels(
     if count == 0 {
         return;
     }
-    let mut z = element_row_cubic::differences(cubic, offset);
+    let mut z = element_differences::differences(cubic, offset);
     let mut k: usize = 0;
     while k < count {
         row[at + k] = rounded_level(z[0], d);
-        z = element_row_cubic::stepped(z);
+        z = element_differences::stepped(z);
         k += 1;
     }
 }

@@ -2,4 +2,3 @@ pub mod Horner
 pub mod RowBounds
 pub mod Denominators
 pub mod Heights
-pub mod Rises

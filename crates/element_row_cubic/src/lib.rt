@@ -8,7 +8,6 @@ ghost use Rattle.element_cell.specs.Cell.{Side, cell};
 ghost use Rattle.element_cell.specs.Corners.{largest};
 ghost use Rattle.element_cell.specs.Coefficients.{size, halves, Sized};
 ghost use Rattle.element_row_cubic.specs.Row.{down, alongRow, atOffset, cubesOf, reach};
-ghost use Rattle.element_row_cubic.specs.Steps.{differences, stepped, Steps};
 use element_cell::lengths::cube;
 use element_cell::lengths::length;
 use element_cell::lengths::square;
@@ -33,29 +32,6 @@ pub fn at_offset(row: [i64; 4], offset: usize) -> i64
 {
     let a = length(offset);
     row[0] + a * (row[1] + a * (row[2] + a * row[3]))
-}
-
-// Its value at an offset and the first, second and third difference there: from them the values to the right follow by additions.
-pub fn differences(row: [i64; 4], offset: usize) -> [i64; 4]
-    requires { ⌜ (offset ≤ 64) × (reach row ≤ 2 ^ 62) ⌝ }
-    ensures { λ r. ⌜ r ≡ differences row offset ⌝ }
-{
-    let a = length(offset);
-    let next = a + 1;
-    [
-        at_offset(row, offset),
-        row[1] + row[2] * (a + next) + row[3] * (3 * a * next + 1),
-        2 * row[2] + 6 * row[3] * next,
-        6 * row[3],
-    ]
-}
-
-// The same an offset further on.
-pub fn stepped(z: [i64; 4]) -> [i64; 4]
-    requires { ⌜ Steps z ⌝ }
-    ensures { λ r. ⌜ r ≡ stepped z ⌝ }
-{
-    [z[0] + z[1], z[1] + z[2], z[2] + z[3], z[3]]
 }
 
 // 2 W³ H³

@@ -1,16 +1,9 @@
 // Theorems that belong to no function. Each is the contract of one that returns 0, so that the gate asks for its proof.
 ghost use mathlib.Core.Path.{_≡_};
 ghost use Rattle.element_row_cubic.specs.Row.{RowLaws};
-ghost use Rattle.element_row_cubic.specs.Steps.{StepLaws};
 
 pub fn row_laws() -> u64
     ensures { λ r. ⌜ (r ≡ 0) × RowLaws ⌝ }
-{
-    0
-}
-
-pub fn step_laws() -> u64
-    ensures { λ r. ⌜ (r ≡ 0) × StepLaws ⌝ }
 {
     0
 }

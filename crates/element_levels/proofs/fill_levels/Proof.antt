@@ -14,8 +14,8 @@ use Rattle.integers.specs.declared.Denominator.{Denominator}
 use Rattle.integers.proofs.Operand.{Operand, known, unchanged}
 use Rattle.integers.proofs.Stepwise.{starting-at, begins, same-length, goes-on, ends}
 use Rattle.element_row_cubic.specs.Row.{atOffset}
-use Rattle.element_row_cubic.specs.Steps.{differences, stepped, Steps}
-use Rattle.element_row_cubic.proofs.Rises.{steps-on, may-step}
+use Rattle.element_differences.specs.Differences.{differences, stepped, Steps}
+use Rattle.element_differences.proofs.Rises.{steps-on, may-step}
 use Rattle.element_levels.specs.Needs.{FitsAt}
 use Rattle.element_levels.proofs.fill_levels.Statement.{statement}
 use Rattle.element_levels.proofs.fill_levels.Tie as tie

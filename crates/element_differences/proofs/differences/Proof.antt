@@ -1,4 +1,4 @@
--- `element_row_cubic::differences` meets its contract. Assumes nothing.
+-- `element_differences::differences` meets its contract. Assumes nothing.
 use mathlib.Core.Path.{_∙_}
 use mathlib.Core.List.{[], _∷_}
 use borrow.Author.Needs.{needs}
@@ -6,11 +6,11 @@ use lib.IntN.{pos}
 use mir.Syntax.{w64}
 use Rattle.integers.proofs.Operand.{Operand, literal, known, returned, stored, _⊞_, _⊠_, asks, gives}
 use Rattle.element_cell.proofs.Sides.{length-within}
-use Rattle.element_row_cubic.specs.Steps.{differences}
+use Rattle.element_differences.specs.Differences.{differences}
 use Rattle.element_row_cubic.proofs.Horner.{at-offset-within}
-use Rattle.element_row_cubic.proofs.Rises.{linear, quadratic, leading, first-is, second-is, third-is}
-use Rattle.element_row_cubic.proofs.differences.Statement.{statement}
-use Rattle.element_row_cubic.proofs.differences.Tie as tie
+use Rattle.element_differences.proofs.Rises.{linear, quadratic, leading, first-is, second-is, third-is}
+use Rattle.element_differences.proofs.differences.Statement.{statement}
+use Rattle.element_differences.proofs.differences.Tie as tie
 
 -- from what has been returned as the offset's length
 module _ (l : tie.After-length) where

@@ -11,9 +11,9 @@ use Rattle.integers.specs.Within.{_within_}
 use Rattle.integers.proofs.Bounds.{is-within, within-self, within-mono, within-+, within-*}
 use Rattle.integers.proofs.Polynomial.{Expr, #_, _⊕_, _⊗_, _⊝_}
 use Rattle.integers.proofs.Solve.{_≐_, solve}
 use Rattle.element_row_cubic.specs.Row.{atOffset, reach}
-use Rattle.element_row_cubic.specs.Steps.{rise, differences, stepped, StepLaws, Steps}
+use Rattle.element_differences.specs.Differences.{rise, differences, stepped, DifferenceLaws, Steps}
 use Rattle.element_row_cubic.proofs.Horner.{at-offset-within}
 
 rise-adds : (f : ℕ → ℤ) (a : ℕ) → f a +ℤ rise f a ≡ f (a + 1)
 unfolding rise
@@ -95,6 +95,6 @@ module _ (p : List ℤ) where
         third = subst (λ z. z within (2 ^ 60)) (third-is a) (within-mono (within-* (within-self (pos 6)) leading) (lit≤ tt));
       }
 
-pub step-laws : StepLaws
+pub difference-laws : DifferenceLaws
 unfolding differences
-step-laws = record { values = λ p a. refl; steps = steps-on }
+difference-laws = record { values = λ p a. refl; steps = steps-on }

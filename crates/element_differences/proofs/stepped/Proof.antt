@@ -1,11 +1,11 @@
--- `element_row_cubic::stepped` meets its contract. Assumes nothing.
+-- `element_differences::stepped` meets its contract. Assumes nothing.
 use mathlib.Core.List.{[], _∷_}
 use borrow.Author.Needs.{needs}
 use mir.Syntax.{w64}
 use Rattle.integers.proofs.Operand.{Operand, known, _⊞_, asks, gives}
-use Rattle.element_row_cubic.specs.Steps.{stepped}
-use Rattle.element_row_cubic.proofs.stepped.Statement.{statement}
-use Rattle.element_row_cubic.proofs.stepped.Tie as tie
+use Rattle.element_differences.specs.Differences.{stepped}
+use Rattle.element_differences.proofs.stepped.Statement.{statement}
+use Rattle.element_differences.proofs.stepped.Tie as tie
 
 module _ (s : tie.Start) where
   abbrev z₀ : Operand

@@ -21,7 +21,7 @@ stepped z =
     (getD z 0 (pos 0) +ℤ getD z 1 (pos 0)) ∷ (getD z 1 (pos 0) +ℤ getD z 2 (pos 0)) ∷ (getD z 2 (pos 0) +ℤ getD z 3 (pos 0)) ∷ getD z 3 (pos 0) ∷ []
 
 -- the first of the differences is the value, and a step leads to the differences of the next offset, so additions alone give the values from an offset on
-pub record StepLaws : Type 0 where
+pub record DifferenceLaws : Type 0 where
   pub values : (p : List ℤ) (a : ℕ) → getD (differences p a) 0 (pos 0) ≡ atOffset p a
   pub steps : (p : List ℤ) (a : ℕ) → stepped (differences p a) ≡ differences p (a + 1)
 
