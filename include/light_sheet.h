@@ -2,7 +2,7 @@
  * docs/FORMAT.md.
  *
  * Link with liblight_sheet_c.a, for x86-64 Linux: `rt staticlib light_sheet_c` proves the module and writes the archive to target/staticlib. The archive has
- * these eight calls and needs nothing else, not even the C library.
+ * these eight calls and needs no other library, not even that of C.
  *
  * Of every call:
  * - Nothing is kept from one call to the next, nothing is allocated, no system call is made, errno is not touched. A call always returns, and takes at most
@@ -104,8 +104,8 @@ uint32_t lvs_read(const uint8_t *sheet, size_t len, uint32_t x, uint32_t y, uint
 uint32_t lvs_bends(const uint8_t *sheet, size_t len, uint32_t x, uint32_t y, int64_t *bends, size_t places, uint32_t *pieces);
 
 /* Fills a run of levels along a row of pixels: place k of levels gets the level at the pixel (x + k, y), in grains, as lvs_read rounds it.
- * Each level is stored once, from the first place to the last. A monitor that looks at levels meanwhile finds, for some k, the first k places with their levels
- * and the others as they were.
+ * Each level is stored once, from the first place to the last, so a monitor that looks at levels meanwhile sees the row grow. Reading from the last place to
+ * the first, it finds, for some k, the first k places with their levels and the others as they were.
  * Returns 0, and has written all count places; or 1 to 8, and has written nothing. */
 uint32_t lvs_fill_run(const uint8_t *sheet, size_t len, uint32_t x, uint32_t y, int32_t *levels, size_t count);
 

@@ -193,9 +193,9 @@ pub fn bends(sheet: &[u8], x: u32, y: u32, list: &mut [i64]) -> Result<usize, Re
 
 /// Fills `levels` along a row, one per pixel to the right from (x, y), in grains.
 ///
-/// They are stored one by one, from left to right. The slice is lent to this call alone, so a
-/// monitor that is to see the row grow looks at its memory from another process, or makes the bare
-/// call on memory that it shares.
+/// They are stored one by one, from left to right. Safe Rust shows nobody the slice meanwhile: to
+/// let a monitor see the row grow, share its memory with another process, or make the bare call,
+/// [`ffi::lvs_fill_run`], on shared memory.
 pub fn fill_run(sheet: &[u8], x: u32, y: u32, levels: &mut [i32]) -> Result<(), Refusal> {
     let (places, count) = (levels.as_mut_ptr(), levels.len());
     // SAFETY: both slices are lent for their whole length; `levels` to this call alone.

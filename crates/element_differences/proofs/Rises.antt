@@ -12,7 +12,7 @@ use Rattle.integers.proofs.Bounds.{is-within, within-self, within-mono, within-
 use Rattle.integers.proofs.Polynomial.{Expr, #_, _⊕_, _⊗_, _⊝_}
 use Rattle.integers.proofs.Solve.{_≐_, solve}
 use Rattle.element_row_cubic.specs.Row.{atOffset, reach}
-use Rattle.element_differences.specs.Differences.{rise, differences, stepped, DifferenceLaws, Steps}
+use Rattle.element_differences.specs.Differences.{rise, differences, stepped, DifferenceLaws, SumsFit}
 use Rattle.element_row_cubic.proofs.Horner.{at-offset-within}
 
 rise-adds : (f : ℕ → ℤ) (a : ℕ) → f a +ℤ rise f a ≡ f (a + 1)
@@ -83,7 +83,7 @@ module _ (p : List ℤ) where
       next = within-+ here (within-self (pos 1))
 
       -- so the differences are small beside the value
-      pub may-step : Steps (differences p a)
+      pub may-step : SumsFit (differences p a)
       unfolding differences
       may-step = record {
         value = within-mono (at-offset-within p r u) (lit≤ tt);

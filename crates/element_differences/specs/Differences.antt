@@ -26,7 +26,7 @@ pub record DifferenceLaws : Type 0 where
   pub steps : (p : List ℤ) (a : ℕ) → stepped (differences p a) ≡ differences p (a + 1)
 
 -- the sums stay within 64 bits
-pub record Steps (z : List ℤ) : Type 0 where
+pub record SumsFit (z : List ℤ) : Type 0 where
   pub value : getD z 0 (pos 0) within (2 ^ 62)
   pub first : getD z 1 (pos 0) within (2 ^ 60)
   pub second : getD z 2 (pos 0) within (2 ^ 60)

@@ -4,7 +4,7 @@ pub mod theorems;
 ghost use mathlib.Core.Path.{_≡_};
 ghost use Prim.Native.Nat.{_^_, _≤_};
 ghost use Rattle.element_row_cubic.specs.Row.{reach};
-ghost use Rattle.element_differences.specs.Differences.{differences, stepped, Steps};
+ghost use Rattle.element_differences.specs.Differences.{differences, stepped, SumsFit};
 use element_cell::lengths::length;
 use element_row_cubic::at_offset;
 
@@ -25,7 +25,7 @@ pub fn differences(row: [i64; 4], offset: usize) -> [i64; 4]
 
 // The same an offset further on.
 pub fn stepped(z: [i64; 4]) -> [i64; 4]
-    requires { ⌜ Steps z ⌝ }
+    requires { ⌜ SumsFit z ⌝ }
     ensures { λ r. ⌜ r ≡ stepped z ⌝ }
 {
     [z[0] + z[1], z[1] + z[2], z[2] + z[3], z[3]]

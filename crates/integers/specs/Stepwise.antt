@@ -21,7 +21,7 @@ startingAt slot f k = f (k - slot)
 -- a loop of `count` steps from slot `from` on, at the start of a turn: it has made k of them, and its row, row₀ when it started, is the one after k steps now
 pub record Underway (f : ℕ → ℤ) (from count : ℕ) (row₀ row : List ℤ) (k : ℕ) : Type 0 where
   pub most : k ≤ count
-  pub stepped : row ≡ steps f from k row₀
+  pub grown : row ≡ steps f from k row₀
 
 pub record StepwiseLaws : Type 0 where
   -- a row keeps its length

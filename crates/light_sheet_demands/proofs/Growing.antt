@@ -9,6 +9,7 @@ use lib.ListN.{length, set}
 use Rattle.integers.specs.Stepwise.{step, steps, Underway}
 use Rattle.integers.proofs.Stepwise.{steps-same, stepwise-laws}
 use Rattle.element_readings.specs.Reading.{levelOf, rounded}
+use Rattle.sheet_calls.proofs.Chains.{run-held}
 use Rattle.surface_of_sheet.specs.Surface.{levelAt, level}
 use Rattle.surface_of_sheet.specs.Run.{slotLevel, afterSteps}
 use Rattle.surface_of_sheet.proofs.Runs.{filled-steps, run-laws}
@@ -43,7 +44,7 @@ module _ (s : List ℕ) (x y : ℕ) where
   -- a loop that started with the row after n steps has, k of its own further, that after n + k
   further : {n count k : ℕ} {f : ℕ → ℤ} {row′ : List ℤ} (row : List ℤ) → Underway f n count (afterSteps s x y n row) row′ k →
       ((j : ℕ) → j < k → f (n + j) ≡ slotLevel s x y (n + j)) → row′ ≡ afterSteps s x y (n + k) row
-  further {n = n} {k = k} {f = f} row u e = u .stepped ∙ steps-same f (slotLevel s x y) n k _ e ∙ sym (on n k row)
+  further {n = n} {k = k} {f = f} row u e = u .grown ∙ steps-same f (slotLevel s x y) n k _ e ∙ sym (on n k row)
 
   -- a run that is not refused makes a step for each slot
   made : {t : List ℕ} {row row′ : List ℤ} → FillRun s x y row 0 row′ t → row′ ≡ afterSteps s x y (length row) row
@@ -59,6 +60,11 @@ row-grows = record {
   isBegun = run-laws .isBegun;
   worker = λ c h. rw (c .levels) (after _ _ _ _ _ h);
   longer = λ {s} {t} {u} {x} {y} {n} {k} {row} h c d. d .levels ∙ through s x y n k row h ∙ ap (steps (slotLevel s x y) n (k - n)) (sym (c .levels));
+  budgets = λ {s} {t} {x} {y} {row} c k h. let all = run-held s x y (length row) (sym (c .answer)) in record {
+    accepted = all .accepted;
+    first = all .first;
+    each = λ j l. all .each j (omega (arith, l, h));
+  };
   made = made _ _ _;
   through = λ {s} {t} {x} {y} {row} c k h. made s x y c ∙ through s x y k (length row) row h;
   refused = λ {s} {t} {x} {y} {n} {row} c h. c .levels ∙ run-laws .refused s x y row (λ z. h (c .answer ∙ z));

@@ -21,7 +21,7 @@ use Rattle.surface_runs.proofs.Levels.{slot-level}
 
 module _ (s : List ℕ) (x y count : ℕ) (mesh : OnMesh s x y count) where
   -- the last pixel of a run lies on the last line or before it
-  pub to-last : x + count ≤ suc (lineX s (columns s - 1))
+  to-last : x + count ≤ suc (lineX s (columns s - 1))
   to-last = elim (decLt 0 count) [
     | yes h ↦ let last = mesh .each (count - 1) (omega arith) .right in omega arith
     | no h ↦ omega (arith, mesh .first .right)

@@ -12,9 +12,9 @@ use Rattle.integers.specs.Round.{round}
 use Rattle.integers.specs.Stepwise.{startingAt, Underway}
 use Rattle.integers.specs.declared.Denominator.{Denominator}
 use Rattle.integers.proofs.Operand.{Operand, known, unchanged}
-use Rattle.integers.proofs.Stepwise.{starting-at, begins, same-length, goes-on, ends}
+use Rattle.integers.proofs.Stepwise.{starting-at, begins, same-length, goes-on, all-made}
 use Rattle.element_row_cubic.specs.Row.{atOffset}
-use Rattle.element_differences.specs.Differences.{differences, stepped, Steps}
+use Rattle.element_differences.specs.Differences.{differences, stepped, SumsFit}
 use Rattle.element_differences.proofs.Rises.{steps-on, may-step}
 use Rattle.element_levels.specs.Needs.{FitsAt}
 use Rattle.element_levels.proofs.fill_levels.Statement.{statement}
@@ -53,8 +53,8 @@ module _ (c : tie.In-loop Inv-loop μ-loop) where
   asked : let a = start (c .before) .args in FitsAt (a .cubic) (a .offset + c .before .loop .k) (a .d)
   asked = start (c .before) .pre .0 (c .before .loop .k) (c .loop-test .taken)
 
-  may : Steps (c .before .loop .z)
-  may = subst⁻¹ Steps (held (c .before) .1) (may-step (start (c .before) .args .cubic) (asked .reached) (asked .near))
+  may : SumsFit (c .before .loop .z)
+  may = subst⁻¹ SumsFit (held (c .before) .1) (may-step (start (c .before) .args .cubic) (asked .reached) (asked .near))
 
   abbrev value : Operand
   value = known w64 (may .value) tt
@@ -64,7 +64,7 @@ unfolding differences
 value-is p a e = ap (λ z. getD z 0 (pos 0)) e
 
 returns : tie.Need-returns Inv-loop μ-loop
-returns c = ends begins (omega (arith, c .if1 .taken))
+returns c = all-made begins (omega (arith, c .if1 .taken))
 
 differences-requires : tie.Need-differences-requires Inv-loop μ-loop
 differences-requires c κs = let l = c .before .pre .0 0 (omega (arith, c .if1 .left)) in (omega (arith, l .near), l .reached)
@@ -83,7 +83,7 @@ loop-again c = let l = c .before .before .before in let a = start (l .before) .a
     )
 
 returns-2 : tie.Need-returns-2 Inv-loop μ-loop
-returns-2 c = ends (held (c .before) .0) (c .loop-test .left)
+returns-2 c = all-made (held (c .before) .0) (c .loop-test .left)
 
 pub fill-levels-spec : {M : Type 1} → statement M
 fill-levels-spec =

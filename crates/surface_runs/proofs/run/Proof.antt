@@ -5,7 +5,7 @@ use mathlib.Core.Path.{_≡_, _∙_, ap, subst⁻¹}
 use native.Mathlib.Omega.{arith}
 use borrow.Author.Needs.{needs}
 use Rattle.integers.specs.Stepwise.{steps}
-use Rattle.integers.proofs.Stepwise.{same-length, ends}
+use Rattle.integers.proofs.Stepwise.{same-length, all-made}
 use Rattle.sheet_calls.specs.WellFormed.{OnMesh}
 use Rattle.surface_of_sheet.specs.Place.{columnAt, place}
 use Rattle.surface_places.specs.Found.{holding}
@@ -86,7 +86,7 @@ kept : tie.Need-same-length Inv-loop μ-loop
 kept c = let b = c .before in same-length (b .loop .inv (s (b .before) .pre .0) .underway)
 
 returns : tie.Need-returns Inv-loop μ-loop
-returns c = let b = c .before in ends (b .loop .inv (s (b .before) .pre .0) .underway) (c .loop-test .left)
+returns c = let b = c .before in all-made (b .loop .inv (s (b .before) .pre .0) .underway) (c .loop-test .left)
 
 pub run-spec : {M : Type 1} → statement M
 run-spec = tie.close (tie.spec Inv-loop μ-loop (λ c κs. let m = c .before .pre .0 in (axes.mesh _ (m .accepted), m .first)) (λ c κs. let m = c .before .before .pre .0 in (axes.mesh _ (m .accepted), m .first, c .find .ensures)) loop-holds fill-column-requires (λ c. let n = near c in search needs) loop-less loop-again kept returns)
