@@ -10,6 +10,7 @@
 #include <unistd.h>
 
 #include "light_sheet.h"
+#include "sheet.h"
 
 enum { GUARD = 16, PLACES = GUARD + 1 + LVS_MAX_RUN + GUARD, TRAP = 0x100, TRIAL = 10 };
 
@@ -84,29 +85,10 @@ static void run(const uint8_t *sheet, size_t len, uint32_t x, uint32_t y, size_t
     steps += length;
 }
 
-static size_t word(uint8_t *sheet, size_t at, uint32_t number) {
-    sheet[at] = (uint8_t)number;
-    sheet[at + 1] = (uint8_t)(number >> 8);
-    return at + 2;
-}
-
-/* Writes a sheet with these lines and all sorts of numbers, and gives its length. */
-static size_t write_sheet(uint8_t *sheet, const uint16_t *lines[2], const uint8_t counts[2]) {
-    memcpy(sheet, "LVS\1\0", 5);
-    sheet[5] = counts[0];
-    sheet[6] = counts[1];
-    sheet[7] = 0;
-    size_t at = 8;
-    for (int axis = 0; axis < 2; axis++)
-        for (int k = 0; k < counts[axis]; k++) at = word(sheet, at, lines[axis][k]);
-    for (uint32_t k = 0; k < 3u * counts[0] * counts[1]; k++) at = word(sheet, at, k * 2654435761u % 8191 - 4095);
-    return at;
-}
-
 /* Cells of all sorts, narrow, wide, high and flat: a run below the mesh, runs over the whole of it and parts of it. */
 static void cells(uint8_t *sheet) {
     static const uint16_t x[] = {3, 4, 11, 75, 90}, y[] = {0, 1, 6, 70, 79};
-    size_t len = write_sheet(sheet, (const uint16_t *[]){x, y}, (const uint8_t[]){5, 5});
+    size_t len = write_sheet(sheet, (const uint16_t *[]){x, y}, (const uint8_t[]){5, 5}, 0);
     run(sheet, len, 3, 80, 88, LVS_OUTSIDE);
     for (uint32_t j = 0; j <= 79; j += 1 + j / 2) run(sheet, len, 3, j, 88, LVS_DONE);
     for (uint32_t i = 3; i <= 79; i += 1 + i / 2) run(sheet, len, i, i, 1 + (90 - i) / 2, LVS_DONE);
@@ -117,7 +99,7 @@ static void cells(uint8_t *sheet) {
 static void longest(uint8_t *sheet) {
     static uint16_t x[65], y[] = {0, 33};
     for (uint16_t k = 0; k < 65; k++) x[k] = (uint16_t)(64 * k);
-    size_t len = write_sheet(sheet, (const uint16_t *[]){x, y}, (const uint8_t[]){65, 2});
+    size_t len = write_sheet(sheet, (const uint16_t *[]){x, y}, (const uint8_t[]){65, 2}, 0);
     run(sheet, len, 0, 34, LVS_MAX_RUN, LVS_OUTSIDE);
     run(sheet, len, 1, 7, LVS_MAX_RUN, LVS_OUTSIDE);
     run(sheet, len, 1, 7, 0, LVS_EMPTY_RUN);

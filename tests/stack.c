@@ -10,6 +10,7 @@
 #include <unistd.h>
 
 #include "light_sheet.h"
+#include "sheet.h"
 
 enum { UNTOUCHABLE = 1 << 28, ROOM = 1 << 16, LONGEST_LINES = 65 };
 
@@ -176,40 +177,29 @@ static void accepted(uint8_t *sheet, size_t len, uint32_t lines, uint32_t last) 
     filled(sheet, len, last / (lines - 1));
 }
 
-static size_t word(uint8_t *sheet, size_t at, uint32_t number) {
-    sheet[at] = (uint8_t)number;
-    sheet[at + 1] = (uint8_t)(number >> 8);
-    return at + 2;
-}
-
-/* Writes a sheet with so many lines each way, `gap` apart, flat or with all sorts of numbers, and gives its length. */
-static size_t write_sheet(uint8_t *sheet, uint32_t lines, uint32_t gap, int flat) {
-    memcpy(sheet, "LVS\1\0", 5);
-    sheet[5] = sheet[6] = (uint8_t)lines;
-    sheet[7] = 0;
-    size_t at = 8;
-    for (uint32_t axis = 0; axis < 2; axis++)
-        for (uint32_t k = 0; k < lines; k++) at = word(sheet, at, k * gap);
-    for (uint32_t k = 0; k < 3 * lines * lines; k++) at = word(sheet, at, flat ? 0 : k * 2654435761u % 8191 - 4095);
-    return at;
+/* A sheet with so many lines each way, `gap` apart. */
+static size_t even_sheet(uint8_t *sheet, uint8_t count, uint16_t gap, int flat) {
+    uint16_t lines[LONGEST_LINES];
+    for (uint8_t k = 0; k < count; k++) lines[k] = (uint16_t)(k * gap);
+    return write_sheet(sheet, (const uint16_t *[]){lines, lines}, (const uint8_t[]){count, count}, flat);
 }
 
 int main(void) {
     static uint8_t sheet[LVS_MAX_SHEET + LVS_NODE_SIZE];
     prepare();
     name = "the longest sheet";
-    size_t len = write_sheet(sheet, LONGEST_LINES, 64, 1);
+    size_t len = even_sheet(sheet, LONGEST_LINES, 64, 1);
     if (len != LVS_MAX_SHEET || 64 * (LONGEST_LINES - 1) + 1 != LVS_MAX_RUN) fail("is not as long and wide as the header says");
     accepted(sheet, len, LONGEST_LINES, LVS_MAX_RUN - 1);
-    write_sheet(sheet, LONGEST_LINES, 64, 0);
+    even_sheet(sheet, LONGEST_LINES, 64, 0);
     accepted(sheet, len, LONGEST_LINES, LVS_MAX_RUN - 1);
     refused(sheet, len - 1, LVS_LENGTH);
     word(sheet, 8, 4096);
     refused(sheet, len, LVS_LINES);
-    write_sheet(sheet, LONGEST_LINES, 64, 0);
+    even_sheet(sheet, LONGEST_LINES, 64, 0);
     word(sheet, len - 2, 4096);
     refused(sheet, len, LVS_NODES);
-    len = write_sheet(sheet, 2, 1, 0);
+    len = even_sheet(sheet, 2, 1, 0);
     accepted(sheet, len, 2, 1);
     sheet[6] = 66;
     refused(sheet, len, LVS_COUNTS);
