@@ -1,5 +1,5 @@
-/* How fast the module fills rows of levels, fills all slopes of a sheet, and gives bends, beside the plain C baseline on the same sheets in one run, and what
- * each other call takes.
+/* How fast the module fills rows of levels, fills all slopes of a sheet, gives bends, and pools sheets, beside the plain C baseline on the same sheets in one
+ * run, and what each other call takes.
  * Usage: bench [--rounds N] measures and prints Markdown; bench --sheet FILE writes the longest sheet to FILE and prints how many pixels its mesh has. */
 #define _POSIX_C_SOURCE 200809L
 #include <stdio.h>
@@ -11,6 +11,7 @@
 #include "calls.h"
 #include "fail.h"
 #include "frames.h"
+#include "pool.h"
 #include "sheets.h"
 #include "slopes.h"
 #include "timing.h"
@@ -31,12 +32,14 @@ static double measure(int rounds) {
     prepare_singles();
     prepare_slopes();
     prepare_bends();
+    prepare_pools();
     double from = now(), others = others_seconds();
     for (int round = 0; round < rounds; round++) {
         measure_frames(round);
         measure_singles();
         measure_slopes(round);
         measure_bends(round);
+        measure_pools(round);
     }
     others = (others_seconds() - others) / (now() - from);
     free_frames();
@@ -65,7 +68,7 @@ static void print_conditions(void) {
     printf("- Buffers: cleared before every timing, outside the timed part, with a number that no level has. So all their pages are there, and the caches are "
            "warm: they hold as much of a buffer as fits.\n");
     printf("- The module checks the whole sheet in every call, and is called once for each row of pixels: its figures include that. The baseline checks "
-           "nothing, but for bends, where it makes the same checks.\n");
+           "nothing, but for bends and pools, where it makes the same checks.\n");
     printf("- After every timing all levels are compared with those of `pixels`. One of `spans` or of the module that differs ends the run, as does one of "
            "`double` that is more than a grain off.\n");
     fflush(stdout);
@@ -99,6 +102,7 @@ int main(int argc, char **argv) {
     print_frames(rounds);
     print_slopes(rounds);
     print_bends(rounds);
+    print_pools(rounds);
     print_singles(rounds);
     return 0;
 }

@@ -10,11 +10,15 @@ static int are_lines(const uint8_t *at, uint32_t count) {
     return word(at + 2 * (count - 1)) <= 4096;
 }
 
-/* All are looked at, so that the compiler can take several at a time. */
+/* By the greatest and the least of all, so that the compiler can take several at a time. */
 static int are_node_numbers(const uint8_t *at, size_t count) {
-    uint16_t out = 0;
-    for (size_t k = 0; k < count; k++) out |= (uint16_t)(word(at + 2 * k) + 4095) > 8190;
-    return !out;
+    int16_t most = 0, least = 0;
+    for (size_t k = 0; k < count; k++) {
+        int16_t number = (int16_t)word(at + 2 * k);
+        most = number > most ? number : most;
+        least = number < least ? number : least;
+    }
+    return most <= 4095 && least >= -4095;
 }
 
 uint32_t reference_check(const uint8_t *sheet, size_t len) {

@@ -1,15 +1,17 @@
-/* What a server does with a sheet, by each of the eight calls: checks it, reads at a pixel, lists the bends from each piece there, fills the row from there on,
- * finds a node, sets it, reads it back, fills all slopes from the heights and reads once more.
+/* What a server does with a sheet, by each of the nine calls: checks it, reads at a pixel, lists the bends from each piece there, fills the row from there on,
+ * finds a node, sets it, reads it back, fills all slopes from the heights and reads once more. Then it takes the sheet as the screen's, pools it with those of
+ * lens and port glass, and reads what the lamp sees.
  * Usage: sheet FILE [X Y]; without a pixel, at the mesh's first. */
 #include <inttypes.h>
 #include <stdio.h>
 #include <stdlib.h>
+#include <string.h>
 
 #include "light_sheet.h"
 
 static const char *const meaning[] = {
     "done", "mark", "version", "counts", "length", "lines", "nodes", "outside the mesh", "empty run", "reading kind", "no such node", "new numbers",
-    "stiffness", "too steep", "few places",
+    "stiffness", "too steep", "few places", "second sheet", "other lines", "target's length",
 };
 
 /* Ends the program where a call is refused. */
@@ -57,13 +59,16 @@ static void print_row(const uint8_t *sheet, size_t len, uint32_t x, uint32_t y) 
     printf("\n");
 }
 
+static void print_first_node(const uint8_t *node) {
+    printf("first node: height %" PRId32 ", slopes %" PRId32 " %" PRId32 "\n", signed_word(node), signed_word(node + 2), signed_word(node + 4));
+}
+
 /* The first node one step brighter. */
 static void brighten_first_node(uint8_t *sheet, size_t len) {
     expect("lookup", lvs_node_refusal(sheet, len, 0, 0));
     const uint8_t *node = sheet + lvs_node_offset(sheet, len, 0, 0);
-    int32_t height = signed_word(node), x_slope = signed_word(node + 2), y_slope = signed_word(node + 4);
-    printf("first node: height %" PRId32 ", slopes %" PRId32 " %" PRId32 "\n", height, x_slope, y_slope);
-    expect("setting", lvs_set_node(sheet, len, 0, 0, height + 1, x_slope, y_slope));
+    print_first_node(node);
+    expect("setting", lvs_set_node(sheet, len, 0, 0, signed_word(node) + 1, signed_word(node + 2), signed_word(node + 4)));
     printf("set to height %" PRId32 "\n", signed_word(node));
 }
 
@@ -74,8 +79,28 @@ static void fill_slopes(uint8_t *sheet, size_t len) {
     printf("slopes filled, at the first node: %" PRId32 " %" PRId32 " grains per pixel\n", signed_word(node + 2), signed_word(node + 4));
 }
 
+/* A sheet on the screen's lines, flat but for its first node: it stands here for what a house has measured of its lens, or of its port glass. */
+static void write_first_node(uint8_t *sheet, const uint8_t *screen, size_t len, int32_t height, int32_t x_slope, int32_t y_slope) {
+    size_t nodes = lvs_node_offset(screen, len, 0, 0);
+    memcpy(sheet, screen, nodes);
+    memset(sheet + nodes, 0, len - nodes);
+    expect("setting", lvs_set_node(sheet, len, 0, 0, height, x_slope, y_slope));
+}
+
+/* The lamp sees the sum of screen, lens and port glass. A pool can be pooled again, so two calls make one sheet of three. */
+static void pool_three(const uint8_t *screen, size_t len, uint8_t *all) {
+    static uint8_t lens[LVS_MAX_SHEET], glass[LVS_MAX_SHEET], both[LVS_MAX_SHEET];
+    write_first_node(lens, screen, len, -1, 16, 0);
+    write_first_node(glass, screen, len, 3, 0, 16);
+    expect("pool of lens and glass", lvs_pool(lens, len, glass, len, both, len));
+    expect("pool of all three", lvs_pool(screen, len, both, len, all, len));
+    printf("screen, lens and port glass pooled, ");
+    print_first_node(all + lvs_node_offset(all, len, 0, 0));
+}
+
 int main(int argc, char **argv) {
     static uint8_t sheet[LVS_MAX_SHEET + 1]; /* one byte more than any sheet has, so that a longer file is refused */
+    static uint8_t all[LVS_MAX_SHEET];
     FILE *file = argc == 2 || argc == 4 ? fopen(argv[1], "rb") : NULL;
     if (!file) {
         fprintf(stderr, "usage: sheet FILE [X Y], where FILE can be read\n");
@@ -93,5 +118,7 @@ int main(int argc, char **argv) {
     print_readings(sheet, len, first_x, first_y);
     fill_slopes(sheet, len);
     print_readings(sheet, len, first_x, first_y);
+    pool_three(sheet, len, all);
+    print_readings(all, len, first_x, first_y);
     return 0;
 }

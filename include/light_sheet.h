@@ -2,20 +2,21 @@
  * docs/FORMAT.md.
  *
  * Link with liblight_sheet_c.a, for x86-64 Linux: `rt staticlib light_sheet_c` proves the module and writes the archive to target/staticlib. The archive has
- * these eight calls and needs no other library, not even that of C.
+ * these nine calls and needs no other library, not even that of C.
  *
  * Of every call:
  * - Nothing is kept from one call to the next, nothing is allocated, no system call is made, errno is not touched. A call always returns, and takes at most
  *   LVS_STACK bytes of stack.
- * - The whole sheet is checked each time, so a sheet need not be checked first. Any bytes may be passed as a sheet: none is read behind len.
+ * - The whole sheet is checked each time, so a sheet need not be checked first. Any bytes may be passed as a sheet: none is read behind its length.
  * - A call that is refused changes no memory that it was lent. The number is that of the first condition, in the order of lvs_refusal, that holds among those
- *   that concern the call.
- * - Any number of threads may call at once, also on one sheet, as long as no thread sets a node or fills slopes in it meanwhile.
+ *   that concern the call; only lvs_pool looks at one of them, 11, out of that order.
+ * - Any number of threads may call at once, also on one sheet, as long as no thread sets a node, fills slopes or writes a pool in it meanwhile.
  *
  * The caller's duty, which no call can check:
- * - sheet points to len bytes, levels to count numbers, values to three, bends to places numbers, pieces to one; with a length of 0 the pointer is never
- *   followed and may be null.
- * - levels, values, bends and pieces overlap neither the sheet nor each other, and no other thread writes to what is lent while a call runs.
+ * - sheet points to len bytes, first, second and target to first_len, second_len and target_len, levels to count numbers, values to three, bends to places
+ *   numbers, pieces to one; with a length of 0 the pointer is never followed and may be null.
+ * - levels, values, bends, pieces and target overlap neither a sheet nor each other, and no other thread writes to what is lent while a call runs. first and
+ *   second are only read: they may be one sheet.
  */
 #ifndef LIGHT_SHEET_H
 #define LIGHT_SHEET_H
@@ -40,10 +41,13 @@ enum lvs_refusal {
     LVS_EMPTY_RUN = 8,    /* a run of no pixels */
     LVS_KIND = 9,         /* a reading kind above 2 */
     LVS_NO_NODE = 10,     /* no such column or row */
-    LVS_NEW_NUMBERS = 11, /* a new height or slope outside -4095 to 4095 */
+    LVS_NEW_NUMBERS = 11, /* a new height or slope, or a sum of two, outside -4095 to 4095 */
     LVS_STIFFNESS = 12,   /* a stiffness above 64 */
     LVS_TOO_STEEP = 13,   /* a filled slope outside -4095 to 4095 */
-    LVS_FEW_PLACES = 14   /* fewer than 24 places for bends */
+    LVS_FEW_PLACES = 14,  /* fewer than 24 places for bends */
+    LVS_SECOND = 15,      /* the second sheet would be refused with 1 to 6 */
+    LVS_OTHER_LINES = 16, /* the lines of the two sheets differ */
+    LVS_TARGET = 17       /* the target is not as long as the first sheet */
 };
 
 /* What a reading gives: the height of the surface, its slopes, its second derivatives. */
@@ -87,6 +91,13 @@ uint32_t lvs_set_node(uint8_t *sheet, size_t len, uint32_t column, uint32_t row,
  * matter, as long as the sheet is accepted.
  * Returns 0, and has written both slopes of every node and kept all other bytes; or 1 to 6, 12 or 13, and has written nothing. */
 uint32_t lvs_fill_slopes(uint8_t *sheet, size_t len, uint32_t stiffness);
+
+/* Pools two sheets on the same lines, such as those of screen and lens: target becomes a sheet with the header and lines of the first, each height and slope of
+ * which is the sum of the two. It can be pooled again, so a third sheet is added by a second call. The lines are the same where their number and every position
+ * are, on both axes. What target held does not matter. All sums are looked at before the first byte is written.
+ * After 1 to 6, which the first sheet is refused with, come 15, 16 and 17 in this order, and 11, a sum out of range, last.
+ * Returns 0, and has written all of target; or 1 to 6, 11, 15, 16 or 17, and has written nothing. */
+uint32_t lvs_pool(const uint8_t *first, size_t first_len, const uint8_t *second, size_t second_len, uint8_t *target, size_t target_len);
 
 /* Reads at a pixel of the mesh; pixels on the outer lines belong to it. kind is one of lvs_kind. The values are whole numbers of grains (level, tilt) or of
  * 1/64 grain (bend), rounded to the nearest, a tie up, and divided by 64 or 4096, which a double holds exactly.

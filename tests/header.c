@@ -21,6 +21,9 @@ static_assert(LVS_NEW_NUMBERS == 11, "new numbers");
 static_assert(LVS_STIFFNESS == 12, "stiffness");
 static_assert(LVS_TOO_STEEP == 13, "a filled slope");
 static_assert(LVS_FEW_PLACES == 14, "places for bends");
+static_assert(LVS_SECOND == 15, "the second sheet of a pool");
+static_assert(LVS_OTHER_LINES == 16, "lines of a pool");
+static_assert(LVS_TARGET == 17, "length of a pool");
 
 /* reading kinds */
 static_assert(LVS_LEVEL == 0, "the height");
@@ -46,6 +49,7 @@ unsigned int lvs_node_refusal(const unsigned char *, unsigned long, unsigned int
 unsigned long lvs_node_offset(const unsigned char *, unsigned long, unsigned int, unsigned int);
 unsigned int lvs_set_node(unsigned char *, unsigned long, unsigned int, unsigned int, int, int, int);
 unsigned int lvs_fill_slopes(unsigned char *, unsigned long, unsigned int);
+unsigned int lvs_pool(const unsigned char *, unsigned long, const unsigned char *, unsigned long, unsigned char *, unsigned long);
 unsigned int lvs_read(const unsigned char *, unsigned long, unsigned int, unsigned int, unsigned int, double[3]);
 unsigned int lvs_bends(const unsigned char *, unsigned long, unsigned int, unsigned int, long *, unsigned long, unsigned int *);
 unsigned int lvs_fill_run(const unsigned char *, unsigned long, unsigned int, unsigned int, int *, unsigned long);

@@ -57,8 +57,11 @@ static void on_stack(size_t size, void (*make)(void *), void *call) {
 
 /* What a call takes and gives. */
 struct call {
-    uint8_t *sheet;
+    uint8_t *sheet; /* the first one of a pool */
     size_t len;
+    const uint8_t *second;
+    uint8_t *target;
+    size_t second_len, target_len;
     uint32_t x, y, kind, stiffness;
     int32_t height;
     int32_t *levels;
@@ -94,6 +97,11 @@ static void make_fill_slopes(void *of) {
     c->given = lvs_fill_slopes(c->sheet, c->len, c->stiffness);
 }
 
+static void make_pool(void *of) {
+    struct call *c = of;
+    c->given = lvs_pool(c->sheet, c->len, c->second, c->second_len, c->target, c->target_len);
+}
+
 static void make_read(void *of) {
     struct call *c = of;
     c->given = lvs_read(c->sheet, c->len, c->x, c->y, c->kind, c->values);
@@ -118,6 +126,13 @@ static void expect(const char *called, size_t size, void (*make)(void *), struct
 #define EXPECT(which, size, given, ...) expect("lvs_" #which, size, make_##which, (struct call){__VA_ARGS__}, given)
 #define SHEET .sheet = sheet, .len = len
 
+/* A sheet with so many lines each way, `gap` apart. */
+static size_t even_sheet(uint8_t *sheet, uint8_t count, uint16_t gap, int flat) {
+    uint16_t lines[LONGEST_LINES];
+    for (uint8_t k = 0; k < count; k++) lines[k] = (uint16_t)(k * gap);
+    return write_sheet(sheet, (const uint16_t *[]){lines, lines}, (const uint8_t[]){count, count}, flat);
+}
+
 /* Every call on a sheet that is refused with this number. */
 static void refused(uint8_t *sheet, size_t len, enum lvs_refusal number) {
     static int32_t levels[4];
@@ -126,9 +141,24 @@ static void refused(uint8_t *sheet, size_t len, enum lvs_refusal number) {
     EXPECT(node_offset, LVS_STACK, 0, SHEET);
     EXPECT(set_node, LVS_STACK, number, SHEET);
     EXPECT(fill_slopes, LVS_STACK, number, SHEET);
+    EXPECT(pool, LVS_STACK, number, SHEET, .second = sheet, .second_len = len);
     EXPECT(read, LVS_STACK, number, SHEET);
     EXPECT(bends, LVS_STACK, number, SHEET, .places = LVS_BEND_PLACES);
     EXPECT(fill_run, LVS_STACK, number, SHEET, .levels = levels, .count = 4);
+}
+
+/* An accepted sheet, with so many lines each way that lie `gap` apart, pooled with a flat one: done, and refused by each condition of its own. */
+static void pooled(uint8_t *sheet, size_t len, uint8_t lines, uint16_t gap) {
+    static uint8_t flat[LVS_MAX_SHEET], target[LVS_MAX_SHEET];
+    EXPECT(set_node, LVS_STACK, LVS_DONE, SHEET, .x = lines - 1u, .y = lines - 1u, .height = 4095);
+    even_sheet(flat, lines, gap, 1);
+    EXPECT(pool, LVS_STACK, LVS_DONE, SHEET, .second = flat, .second_len = len, .target = target, .target_len = len);
+    EXPECT(pool, LVS_STACK, LVS_TARGET, SHEET, .second = flat, .second_len = len, .target = target, .target_len = len - 1);
+    EXPECT(pool, LVS_STACK, LVS_SECOND, SHEET, .second = flat, .second_len = len - 1, .target = target, .target_len = len);
+    word(flat, len - LVS_NODE_SIZE, 1); /* the last height: the sum is 4096 */
+    EXPECT(pool, LVS_STACK, LVS_NEW_NUMBERS, SHEET, .second = flat, .second_len = len, .target = target, .target_len = len);
+    even_sheet(flat, lines, gap > 1 ? gap - 1 : 2, 1);
+    EXPECT(pool, LVS_STACK, LVS_OTHER_LINES, SHEET, .second = flat, .second_len = len, .target = target, .target_len = len);
 }
 
 /* Slopes of an accepted sheet whose lines lie `gap` apart, filled: done, and refused by each condition of its own. */
@@ -174,14 +204,8 @@ static void accepted(uint8_t *sheet, size_t len, uint32_t lines, uint32_t last) 
     EXPECT(fill_run, LVS_STACK, LVS_OUTSIDE, SHEET, .x = 1, .levels = levels, .count = last + 1);
     EXPECT(fill_run, LVS_STACK, LVS_EMPTY_RUN, SHEET, .levels = levels, .count = 0);
     bent(sheet, len, last / (lines - 1), last);
+    pooled(sheet, len, (uint8_t)lines, (uint16_t)(last / (lines - 1)));
     filled(sheet, len, last / (lines - 1));
-}
-
-/* A sheet with so many lines each way, `gap` apart. */
-static size_t even_sheet(uint8_t *sheet, uint8_t count, uint16_t gap, int flat) {
-    uint16_t lines[LONGEST_LINES];
-    for (uint8_t k = 0; k < count; k++) lines[k] = (uint16_t)(k * gap);
-    return write_sheet(sheet, (const uint16_t *[]){lines, lines}, (const uint8_t[]){count, count}, flat);
 }
 
 int main(void) {

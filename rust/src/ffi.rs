@@ -1,4 +1,4 @@
-//! The archive's eight calls, bare, as its C header has them.
+//! The archive's nine calls, bare, as its C header has them.
 //!
 //! Each gives 0 or the number of a refusal, but for [`lvs_node_offset`].
 //! None keeps, allocates or shares anything.
@@ -6,8 +6,9 @@
 //! # Safety
 //!
 //! `sheet` must be fit to be read for `len` bytes (and to be written by [`lvs_set_node`] and
-//! [`lvs_fill_slopes`]), `values` to be written for three numbers, `levels` for `count`, `bends` for
-//! `places` and `pieces` for one.
+//! [`lvs_fill_slopes`]), `first` for `first_len` and `second` for `second_len`. `target` must be fit
+//! to be written for `target_len` bytes, `values` for three numbers, `levels` for `count`, `bends`
+//! for `places` and `pieces` for one.
 //! Pointers are aligned for their type; with a length of 0 one is never followed and may be null.
 //! Memory that a call may write is lent to it alone.
 
@@ -34,6 +35,16 @@ extern "C" {
 
     /// Fills every slope from the heights.
     pub fn lvs_fill_slopes(sheet: *mut u8, len: usize, stiffness: u32) -> u32;
+
+    /// Pools two sheets on the same lines into a third buffer.
+    pub fn lvs_pool(
+        first: *const u8,
+        first_len: usize,
+        second: *const u8,
+        second_len: usize,
+        target: *mut u8,
+        target_len: usize,
+    ) -> u32;
 
     /// Reads at a pixel. Places of `values` beyond the kind's count keep their contents.
     pub fn lvs_read(

@@ -49,6 +49,19 @@
 //! assert_eq!(light_sheet::tilt(&sheet, 0, 0)?, [1.0, -0.5]);
 //! assert_eq!(light_sheet::level(&sheet, 1, 0)?, 2.0);
 //!
+//! // The lamp sees the sum of screen, lens and port glass, which have a sheet each: here the lens
+//! // takes a step away at the left top node, and the glass adds four.
+//! let (mut lens, mut glass) = (sheet, sheet);
+//! lens[16..].fill(0);
+//! glass[16..].fill(0);
+//! light_sheet::set_node(&mut lens, 0, 0, light_sheet::Node { height: -1, ..Default::default() })?;
+//! light_sheet::set_node(&mut glass, 0, 0, light_sheet::Node { height: 4, ..Default::default() })?;
+//! let (mut both, mut all) = ([0; 40], [0; 40]);
+//! light_sheet::pool(&lens, &glass, &mut both)?;
+//! light_sheet::pool(&sheet, &both, &mut all)?;
+//! assert_eq!(light_sheet::level(&all, 0, 0)?, 4.0);
+//! assert_eq!(light_sheet::level(&all, 2, 0)?, 3.0);
+//!
 //! assert_eq!(light_sheet::level(&sheet, 3, 0), Err(light_sheet::Refusal::Pixel));
 //! # Ok(())
 //! # }
@@ -142,6 +155,19 @@ pub fn fill_slopes(sheet: &mut [u8], stiffness: u32) -> Result<(), Refusal> {
     let (start, len) = (sheet.as_mut_ptr(), sheet.len());
     // SAFETY: the slice is lent for its whole length, to this call alone.
     answer(unsafe { ffi::lvs_fill_slopes(start, len, stiffness) })
+}
+
+/// Pools two sheets on the same lines into `target`, which must be as long as the first one.
+///
+/// It becomes a sheet with the first one's header and lines, each height and slope of which is the
+/// sum of the two; it can be pooled again. What it held does not matter. All sums are looked at
+/// before the first byte is written.
+pub fn pool(first: &[u8], second: &[u8], target: &mut [u8]) -> Result<(), Refusal> {
+    let (start, len) = (target.as_mut_ptr(), target.len());
+    // SAFETY: all three slices are lent for their whole length; `target` to this call alone.
+    answer(unsafe {
+        ffi::lvs_pool(first.as_ptr(), first.len(), second.as_ptr(), second.len(), start, len)
+    })
 }
 
 /// The level at a pixel, in steps: a whole number of grains divided by 64.

@@ -1,9 +1,10 @@
-//! Why a call declines: the fourteen conditions, by name and number.
+//! Why a call declines: the seventeen conditions, by name and number.
 
 use std::error::Error;
 use std::fmt;
 
-/// The first condition, in order of number, that made a call decline.
+/// The first condition, in order of number, that made a call decline; but [`crate::pool`] looks at
+/// 11 last.
 ///
 /// A refused call has changed none of the memory it was lent.
 #[derive(Clone, Copy, Debug, PartialEq, Eq, PartialOrd, Ord, Hash)]
@@ -29,7 +30,7 @@ pub enum Refusal {
     Kind = 9,
     /// 10: no such column or row.
     Node = 10,
-    /// 11: a new height or slope outside -4095 to 4095.
+    /// 11: a new height or slope, or a sum of two, outside -4095 to 4095.
     NewNumbers = 11,
     /// 12: a stiffness above 64.
     Stiffness = 12,
@@ -37,11 +38,17 @@ pub enum Refusal {
     TooSteep = 13,
     /// 14: fewer than 24 places for bends.
     FewPlaces = 14,
+    /// 15: the second sheet would be refused with 1 to 6.
+    Second = 15,
+    /// 16: the lines of the two sheets differ.
+    OtherLines = 16,
+    /// 17: the target is not as long as the first sheet.
+    Target = 17,
 }
 
 impl Refusal {
-    /// All fourteen, in order of number.
-    pub const ALL: [Refusal; 14] = [
+    /// All seventeen, in order of number.
+    pub const ALL: [Refusal; 17] = [
         Refusal::Mark,
         Refusal::Version,
         Refusal::Counts,
@@ -56,9 +63,12 @@ impl Refusal {
         Refusal::Stiffness,
         Refusal::TooSteep,
         Refusal::FewPlaces,
+        Refusal::Second,
+        Refusal::OtherLines,
+        Refusal::Target,
     ];
 
-    /// The number of the condition, 1 to 14.
+    /// The number of the condition, 1 to 17.
     pub fn number(self) -> u32 {
         self as u32
     }
@@ -81,10 +91,15 @@ impl Refusal {
             Refusal::EmptyRun => "the run is empty",
             Refusal::Kind => "the reading kind is above 2",
             Refusal::Node => "there is no such column or row",
-            Refusal::NewNumbers => "a new height or slope is outside -4095 to 4095",
+            Refusal::NewNumbers => {
+                "a new height or slope, or a sum of two, is outside -4095 to 4095"
+            }
             Refusal::Stiffness => "the stiffness is above 64",
             Refusal::TooSteep => "a filled slope would be outside -4095 to 4095",
             Refusal::FewPlaces => "there are fewer than 24 places for bends",
+            Refusal::Second => "the second sheet would be refused itself",
+            Refusal::OtherLines => "the lines of the two sheets differ",
+            Refusal::Target => "the target is not as long as the first sheet",
         }
     }
 }

@@ -34,7 +34,7 @@ fn node_at(column: u32, row: u32) -> Node {
 }
 
 /// The refusals, their numbers and their words.
-const REFUSALS: [(Refusal, u32, &str); 14] = [
+const REFUSALS: [(Refusal, u32, &str); 17] = [
     (Refusal::Mark, 1, "fewer than 8 bytes, or another mark than LVS"),
     (Refusal::Version, 2, "the sheet's version is not 1"),
     (Refusal::Counts, 3, "a count of lines is outside 2 to 65, or byte 7 is not 0"),
@@ -45,10 +45,13 @@ const REFUSALS: [(Refusal, u32, &str); 14] = [
     (Refusal::EmptyRun, 8, "the run is empty"),
     (Refusal::Kind, 9, "the reading kind is above 2"),
     (Refusal::Node, 10, "there is no such column or row"),
-    (Refusal::NewNumbers, 11, "a new height or slope is outside -4095 to 4095"),
+    (Refusal::NewNumbers, 11, "a new height or slope, or a sum of two, is outside -4095 to 4095"),
     (Refusal::Stiffness, 12, "the stiffness is above 64"),
     (Refusal::TooSteep, 13, "a filled slope would be outside -4095 to 4095"),
     (Refusal::FewPlaces, 14, "there are fewer than 24 places for bends"),
+    (Refusal::Second, 15, "the second sheet would be refused itself"),
+    (Refusal::OtherLines, 16, "the lines of the two sheets differ"),
+    (Refusal::Target, 17, "the target is not as long as the first sheet"),
 ];
 
 #[test]
@@ -60,6 +63,7 @@ fn functions_have_their_types() {
     let _: fn(&[u8], u32, u32) -> Result<Node, Refusal> = light_sheet::node_numbers;
     let _: fn(&mut [u8], u32, u32, Node) -> Result<(), Refusal> = light_sheet::set_node;
     let _: fn(&mut [u8], u32) -> Result<(), Refusal> = light_sheet::fill_slopes;
+    let _: fn(&[u8], &[u8], &mut [u8]) -> Result<(), Refusal> = light_sheet::pool;
     let _: fn(&[u8], u32, u32) -> Result<f64, Refusal> = light_sheet::level;
     let _: fn(&[u8], u32, u32) -> Result<[f64; 2], Refusal> = light_sheet::tilt;
     let _: fn(&[u8], u32, u32) -> Result<[f64; 3], Refusal> = light_sheet::bend;
@@ -79,7 +83,7 @@ fn refusals_have_their_numbers_and_words() {
         assert_eq!(Refusal::from_number(number), Some(refusal));
         assert_eq!(refusal.to_string(), format!("{words} (refusal {number})"));
     }
-    for number in [0, 15, 257, 65_537, u32::MAX] {
+    for number in [0, 18, 257, 65_537, u32::MAX] {
         assert_eq!(Refusal::from_number(number), None);
     }
 }
@@ -114,6 +118,9 @@ fn damaged_sheets_are_refused_by_name() {
 
 /// Every call that the sheet would allow, were it whole, is refused for the sheet.
 fn assert_refused(sheet: &mut [u8], refusal: Refusal) {
+    let whole = self::sheet();
+    assert_eq!(light_sheet::pool(sheet, &whole, &mut [0; 54]), Err(refusal));
+    assert_eq!(light_sheet::pool(&whole, sheet, &mut [0; 54]), Err(Refusal::Second));
     assert_eq!(light_sheet::check(sheet), Err(refusal));
     assert_eq!(light_sheet::node(sheet, 0, 0), Err(refusal));
     assert_eq!(light_sheet::node_numbers(sheet, 0, 0), Err(refusal));
@@ -157,6 +164,37 @@ fn wrong_calls_are_refused_by_name() {
     }
     light_sheet::set_node(&mut sheet, 0, 0, Node { height: 4095, ..zero }).unwrap();
     assert_eq!(light_sheet::fill_slopes(&mut sheet, 64), Err(Refusal::TooSteep));
+}
+
+/// The first height of the sheet is the least that there may be, so one step less is out of range.
+#[test]
+fn wrong_pools_are_refused_by_name() {
+    let (sheet, mut target) = (sheet(), [HELD_BYTE; 55]);
+    let low = Node { height: -1, ..Node::default() };
+    for (x_lines, y_lines) in [([0, 1], [1, 3, 4]), ([0, 2], [1, 3, 5])] {
+        let other = sheet_with(&x_lines, &y_lines, 0, 0, low);
+        assert_eq!(light_sheet::pool(&sheet, &other, &mut target), Err(Refusal::OtherLines));
+    }
+    let second = sheet_with(&[0, 2], &[1, 3, 4], 0, 0, low);
+    for len in [0, 53, 55] {
+        let target = &mut target[..len];
+        assert_eq!(light_sheet::pool(&sheet, &second, target), Err(Refusal::Target));
+    }
+    assert_eq!(light_sheet::pool(&sheet, &second, &mut target[..54]), Err(Refusal::NewNumbers));
+    assert_eq!(target, [HELD_BYTE; 55], "a refused pool changes nothing");
+}
+
+/// Vertical lines 0, 1 and horizontal ones 2, 3, 4, or 0, 1, 2 and 3, 4: the bytes are the same.
+#[test]
+fn lines_are_told_apart_by_their_axis() {
+    let [first, second] = [[2, 3], [3, 2]].map(|[columns, rows]| {
+        let (x_lines, y_lines) = [0, 1, 2, 3, 4].split_at(columns);
+        assert_eq!(y_lines.len(), rows);
+        sheet_with(x_lines, y_lines, 0, 0, Node::default())
+    });
+    assert_eq!(first[8..], second[8..]);
+    let pooled = light_sheet::pool(&first, &second, &mut vec![0; first.len()]);
+    assert_eq!(pooled, Err(Refusal::OtherLines));
 }
 
 #[test]
@@ -251,7 +289,75 @@ fn filled_slopes_come_from_the_heights_alone() {
     assert_eq!(sheet, once, "filled twice as once");
 }
 
-/// What a place holds before a call.
+/// A sheet with vertical lines at 0 and 2, horizontal ones at 0 and 3.
+fn on_lines(nodes: [[u8; 6]; 4]) -> Vec<u8> {
+    [header_and_lines(&[0, 2], &[0, 3]), nodes.concat()].concat()
+}
+
+/// The sheets of screen and lens that docs/FORMAT.md pools, and their pool, worked out by hand.
+const SCREEN: [[u8; 6]; 4] = [
+    [0xc8, 0x00, 0xff, 0xff, 0x00, 0x00], // 200, −1, 0
+    [0xd4, 0xfe, 0x40, 0x00, 0x80, 0xff], // −300, 64, −128
+    [0xa0, 0x0f, 0x0c, 0x00, 0xf9, 0xff], // 4000, 12, −7
+    [0x00, 0x00, 0x60, 0xf0, 0x05, 0x00], // 0, −4000, 5
+];
+const LENS: [[u8; 6]; 4] = [
+    [0x64, 0x00, 0x01, 0x00, 0xc0, 0xff], // 100, 1, −64
+    [0x32, 0x00, 0xe0, 0xff, 0x80, 0x00], // 50, −32, 128
+    [0x5f, 0x00, 0xf4, 0xff, 0xf7, 0xff], // 95, −12, −9
+    [0x00, 0x00, 0xa1, 0xff, 0xfa, 0x00], // 0, −95, 250
+];
+const POOL: [[u8; 6]; 4] = [
+    [0x2c, 0x01, 0x00, 0x00, 0xc0, 0xff], // 300, 0, −64
+    [0x06, 0xff, 0x20, 0x00, 0x00, 0x00], // −250, 32, 0
+    [0xff, 0x0f, 0x00, 0x00, 0xf0, 0xff], // 4095, 0, −16
+    [0x00, 0x00, 0x01, 0xf0, 0xff, 0x00], // 0, −4095, 255
+];
+/// The pool's numbers with the other sign.
+const GLASS: [[u8; 6]; 4] = [
+    [0xd4, 0xfe, 0x00, 0x00, 0x40, 0x00],
+    [0xfa, 0x00, 0xe0, 0xff, 0x00, 0x00],
+    [0x01, 0xf0, 0x00, 0x00, 0x10, 0x00],
+    [0x00, 0x00, 0xff, 0x0f, 0x01, 0xff],
+];
+
+#[test]
+fn sheets_are_pooled_as_worked_out() {
+    let (screen, lens) = (on_lines(SCREEN), on_lines(LENS));
+    assert_eq!(pool(&screen, &lens), on_lines(POOL));
+    let twice = pool(&lens, &lens);
+    assert_eq!((screen, lens), (on_lines(SCREEN), on_lines(LENS)), "both are only read");
+    let node = Node { height: 200, x_slope: 2, y_slope: -128 };
+    assert_eq!(light_sheet::node_numbers(&twice, 0, 0), Ok(node));
+}
+
+/// The pool of two sheets, in a target that held something else.
+fn pool(first: &[u8], second: &[u8]) -> Vec<u8> {
+    let mut target = vec![HELD_BYTE; first.len()];
+    light_sheet::pool(first, second, &mut target).unwrap();
+    target
+}
+
+/// The glass takes away what screen and lens add, so all three are flat, in any order and grouping.
+#[test]
+fn a_pool_can_be_pooled_again() {
+    let [screen, lens, glass] = [SCREEN, LENS, GLASS].map(on_lines);
+    let flat = sheet_with(&[0, 2], &[0, 3], 0, 0, Node::default());
+    for [one, two, three] in [
+        [&screen, &lens, &glass],
+        [&screen, &glass, &lens],
+        [&lens, &screen, &glass],
+        [&lens, &glass, &screen],
+        [&glass, &screen, &lens],
+        [&glass, &lens, &screen],
+    ] {
+        assert_eq!(pool(&pool(one, two), three), flat);
+        assert_eq!(pool(one, &pool(two, three)), flat);
+    }
+}
+
+/// What a byte and a place hold before a call.
+const HELD_BYTE: u8 = 0x5A;
 const HELD: i64 = 0x5A5A_5A5A_5A5A_5A5A;
 
 /// The bends at a pixel, three numbers for each piece; the other places are seen to be kept.
@@ -333,6 +439,9 @@ fn empty_slices_are_refused() {
     assert_eq!(light_sheet::node(&[], 0, 0), Err(Refusal::Mark));
     assert_eq!(light_sheet::set_node(&mut [], 0, 0, Node::default()), Err(Refusal::Mark));
     assert_eq!(light_sheet::fill_slopes(&mut [], 65), Err(Refusal::Mark));
+    assert_eq!(light_sheet::pool(&[], &[], &mut []), Err(Refusal::Mark));
+    assert_eq!(light_sheet::pool(&sheet(), &[], &mut []), Err(Refusal::Second));
+    assert_eq!(light_sheet::pool(&sheet(), &sheet(), &mut []), Err(Refusal::Target));
     assert_eq!(light_sheet::level(&[], 0, 0), Err(Refusal::Mark));
     assert_eq!(light_sheet::bends(&[], 0, 0, &mut []), Err(Refusal::Mark));
     assert_eq!(light_sheet::bends(&sheet(), 0, 1, &mut []), Err(Refusal::FewPlaces));
@@ -352,12 +461,16 @@ fn nothing_may_be_lent_by_null() {
         assert_eq!(ffi::lvs_node_offset(sheet, 0, 0, 0), 0);
         assert_eq!(ffi::lvs_set_node(sheet, 0, 0, 0, 1, 2, 3), 1);
         assert_eq!(ffi::lvs_fill_slopes(sheet, 0, 1), 1);
+        assert_eq!(ffi::lvs_pool(sheet, 0, sheet, 0, sheet, 0), 1);
         assert_eq!(ffi::lvs_read(sheet, 0, 0, 0, 0, &mut values), 1);
         assert_eq!(ffi::lvs_fill_run(sheet, 0, 0, 0, row, 0), 1);
         let lent = self::sheet();
-        assert_eq!(ffi::lvs_fill_run(lent.as_ptr(), lent.len(), 0, 1, row, 0), 8);
+        let (lent, len) = (lent.as_ptr(), lent.len());
+        assert_eq!(ffi::lvs_pool(lent, len, sheet, 0, sheet, 0), 15);
+        assert_eq!(ffi::lvs_pool(lent, len, lent, len, sheet, 0), 17);
+        assert_eq!(ffi::lvs_fill_run(lent, len, 0, 1, row, 0), 8);
         assert_eq!(ffi::lvs_bends(sheet, 0, 0, 0, bends, 0, &mut pieces), 1);
-        assert_eq!(ffi::lvs_bends(lent.as_ptr(), lent.len(), 0, 1, bends, 0, &mut pieces), 14);
+        assert_eq!(ffi::lvs_bends(lent, len, 0, 1, bends, 0, &mut pieces), 14);
     }
     assert_eq!((values, pieces), ([0.5; 3], 77));
 }

@@ -9,6 +9,7 @@ pub mod Bounds
 pub mod Operand
 pub mod Floors
 pub mod Rounding
+pub mod RoundedSums
 pub mod Prepared
 mod Rest
 mod Constants

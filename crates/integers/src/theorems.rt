@@ -2,6 +2,7 @@
 ghost use mathlib.Core.Path.{_≡_};
 ghost use Rattle.integers.specs.Floor.{FloorLaws};
 ghost use Rattle.integers.specs.Round.{RoundingLaws};
+ghost use Rattle.integers.specs.RoundedSums.{RoundedSums};
 ghost use Rattle.integers.specs.Stepwise.{StepwiseLaws};
 
 pub fn floor_laws() -> u64
@@ -12,6 +13,12 @@ pub fn floor_laws() -> u64
 
 pub fn rounding_laws() -> u64
     ensures { λ r. ⌜ (r ≡ 0) × RoundingLaws ⌝ }
+{
+    0
+}
+
+pub fn rounded_sums() -> u64
+    ensures { λ r. ⌜ (r ≡ 0) × RoundedSums ⌝ }
 {
     0
 }

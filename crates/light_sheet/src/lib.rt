@@ -5,6 +5,7 @@ ghost use Rattle.sheet_layout.specs.Format.{node};
 ghost use Rattle.sheet_calls.specs.Refusals.{checkRefusal, lookupRefusal, settingRefusal, runRefusal};
 ghost use Rattle.sheet_calls.specs.Calls.{lookedUp, Part, withNode};
 ghost use Rattle.sheet_slopes.specs.Slopes.{slopeRefusal, withSlopes};
+ghost use Rattle.sheet_pool.specs.Pool.{poolRefusal, withPool};
 ghost use Rattle.surface_answers.specs.Answers.{outcome};
 ghost use Rattle.surface_of_sheet.specs.Read.{read};
 ghost use Rattle.surface_of_sheet.specs.Run.{filled};
@@ -59,6 +60,17 @@ pub fn fill_slopes(sheet: &mut [u8], stiffness: u32) -> u32
     ensures sheet { λ r. ⌜ now (sheet .exit) ≡ withSlopes (now (sheet .entry)) stiffness ⌝ }
 {
     sheet_filling::fill_slopes(sheet, stiffness)
+}
+
+// Pools two sheets on the same lines into the target, each height and slope the sum of the two, and answers 0; or, refused (1 to 6 of the first sheet, 15, 16, 17,
+// 11), answers the number and leaves the target as it was.
+pub fn pool(first: &[u8], second: &[u8], target: &mut [u8]) -> u32
+    ensures answer { λ r. ⌜ r ≡ poolRefusal (now (first .entry)) (now (second .entry)) (length (now (target .entry))) ⌝ }
+    ensures target { λ r. ⌜ now (target .exit) ≡ withPool (now (first .entry)) (now (second .entry)) (now (target .entry)) ⌝ }
+    ensures first { λ r. ⌜ now (first .exit) ≡ now (first .entry) ⌝ }
+    ensures second { λ r. ⌜ now (second .exit) ≡ now (second .entry) ⌝ }
+{
+    sheet_pooling::pool(first, second, target)
 }
 
 // Reads at the pixel (x, y): kind 0 is the level in steps, 1 the tilt (x, y) in steps per pixel, 2 the bend (xx, xy, yy) in steps per pixel per pixel; or

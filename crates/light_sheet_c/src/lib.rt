@@ -8,6 +8,7 @@ ghost use Rattle.sheet_layout.specs.Format.{node};
 ghost use Rattle.sheet_calls.specs.Refusals.{checkRefusal, lookupRefusal, settingRefusal, runRefusal};
 ghost use Rattle.sheet_calls.specs.Calls.{lookedUp, withNode};
 ghost use Rattle.sheet_slopes.specs.Slopes.{slopeRefusal, withSlopes};
+ghost use Rattle.sheet_pool.specs.Pool.{poolRefusal, withPool};
 ghost use Rattle.surface_of_sheet.specs.Read.{read};
 ghost use Rattle.surface_of_sheet.specs.Run.{filled};
 ghost use Rattle.surface_bends.specs.Bends.{counted, withBends};
@@ -70,6 +71,18 @@ pub extern "C" fn lvs_fill_slopes(sheet: &mut [u8], stiffness: u32) -> u32
     ensures sheet { λ r. ⌜ now (sheet .exit) ≡ withSlopes (now (sheet .entry)) stiffness ⌝ }
 {
     light_sheet::fill_slopes(sheet, stiffness)
+}
+
+// Pools two sheets on the same lines into the target, each height and slope the sum of the two, and answers 0; or, refused (1 to 6 of the first sheet, 15, 16, 17,
+// 11), answers the number and leaves the target as it was.
+#[no_mangle]
+pub extern "C" fn lvs_pool(first: &[u8], second: &[u8], target: &mut [u8]) -> u32
+    ensures answer { λ r. ⌜ r ≡ poolRefusal (now (first .entry)) (now (second .entry)) (length (now (target .entry))) ⌝ }
+    ensures target { λ r. ⌜ now (target .exit) ≡ withPool (now (first .entry)) (now (second .entry)) (now (target .entry)) ⌝ }
+    ensures first { λ r. ⌜ now (first .exit) ≡ now (first .entry) ⌝ }
+    ensures second { λ r. ⌜ now (second .exit) ≡ now (second .entry) ⌝ }
+{
+    light_sheet::pool(first, second, target)
 }
 
 // Reads at the pixel (x, y) into the first slots of `values`: kind 0 the level, one slot; 1 the tilt, two; 2 the bend, three; and answers 0. The slots

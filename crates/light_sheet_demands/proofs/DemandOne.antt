@@ -9,12 +9,13 @@ use Rattle.sheet_calls.proofs.Conditions.{condition-laws}
 use Rattle.sheet_calls.proofs.Lookup.{lookup-laws}
 use Rattle.sheet_calls.proofs.Setting.{setting-laws}
 use Rattle.sheet_slopes.proofs.Laws.{slope-laws}
+use Rattle.sheet_pool.proofs.Laws.{pool-laws}
 use Rattle.surface_of_sheet.proofs.Runs.{run-laws}
 use Rattle.surface_bends.specs.declared.Listed.the-variants.{Refused}
 use Rattle.surface_bends.proofs.Laws.{bend-laws}
 use Rattle.light_sheet_c.proofs.Stored.{over-size, over-behind}
 use Rattle.light_sheet_demands.specs.Demands.{DemandOne}
-use Rattle.light_sheet_demands.proofs.Refusals.{check-gives, lookup-gives, setting-gives, slopes-gives, reading-gives, bends-gives, run-gives}
+use Rattle.light_sheet_demands.proofs.Refusals.{check-gives, lookup-gives, setting-gives, slopes-gives, pool-gives, reading-gives, bends-gives, run-gives}
 use Rattle.light_sheet_demands.proofs.Readings.{refused-reading, no-values, few-words, none-stored}
 use Rattle.light_sheet_demands.proofs.Slopes.{kept}
 use Rattle.light_sheet_demands.proofs.Lists.{refused-list, behind-list, buffer-kept, count-written, count-kept}
@@ -27,6 +28,7 @@ demand-one = record {
   keptByRead = λ c. c .sheet;
   keptByFillRun = λ c. c .sheet;
   keptByBends = λ c. c .sheet;
+  keptByPool = λ c. (c .first, c .second);
   keptByNodeOffset = λ c. c .sheet;
   keptByReadInto = λ c. c .isRead .sheet;
   keptByBendsInto = λ c. c .isListed .sheet;
@@ -37,6 +39,8 @@ demand-one = record {
   slopesSize = λ c. kept c .size;
   besideSlopes = λ c. rw (c .sheet) (slope-laws .beside _ _);
   slopesRefused = λ c h. c .sheet ∙ slope-laws .refused _ _ (λ e. h (c .answer ∙ e));
+  poolSize = λ c. rw (c .pool) (pool-laws .size _ _ _);
+  poolRefused = λ c h. c .pool ∙ pool-laws .refused _ _ _ (λ e. h (c .answer ∙ e));
   rowSize = λ c. rw (c .levels) (run-laws .size _ _ _ _);
   rowRefused = λ c h. c .levels ∙ run-laws .refused _ _ _ _ (λ e. h (c .answer ∙ e));
   bufferSize = λ c. rw (c .list) (bend-laws .buffer _ _ _ _);
@@ -52,6 +56,7 @@ demand-one = record {
   lookup = lookup-gives;
   setting = setting-gives;
   slopes = slopes-gives;
+  pool = pool-gives;
   reading = reading-gives;
   arrayReading = λ c. rw (c .answer) (reading-gives (c .isRead));
   bends = bends-gives;

@@ -10,3 +10,7 @@ pub mod DemandThree
 pub mod Lists
 pub mod Bends
 pub mod Growing
+pub mod Numbers
+pub mod Levels
+pub mod PoolRefusals
+pub mod Pooling

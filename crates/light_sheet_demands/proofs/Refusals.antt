@@ -13,14 +13,15 @@ use Rattle.sheet_calls.specs.Rules.{Rule, firstRefusal, Each, Fails, FirstToHol
 use Rattle.sheet_calls.specs.Refusals.{sheetRules, checkRules, checkRefusal, lookupRules, lookupRefusal, settingRules, settingRefusal, readingRules, readingRefusal, runRules, runRefusal}
 use Rattle.sheet_calls.proofs.Rules.{after-failing, rule-laws, nonzero, numbered}
 use Rattle.sheet_slopes.specs.Slopes.{slopeRules, slopeRefusal}
+use Rattle.sheet_pool.specs.Pool.{poolRules, poolRefusal}
 use Rattle.surface_answers.specs.Answers.{outcome, answered, refused}
 use Rattle.surface_answers.specs.declared.Answer.{Answer}
 use Rattle.surface_of_sheet.specs.Read.{read}
 use Rattle.surface_of_sheet.proofs.Answered.{taken-is, refused-is}
 use Rattle.surface_bends.specs.Bends.{bendsRules, bendsRefusal, tally}
 use Rattle.surface_bends.specs.declared.Listed.{Listed}
-use Rattle.light_sheet_demands.specs.Contracts.{Check, NodeRefusal, SetNode, FillSlopes, Read, ListBends, FillRun}
-use Rattle.light_sheet_demands.specs.Demands.{FirstHolds, NoneHolds, Gives, ofCheck, ofLookup, ofSetting, ofSlopes, ofReading, ofBends, ofRun, AcceptedMeans}
+use Rattle.light_sheet_demands.specs.Contracts.{Check, NodeRefusal, SetNode, FillSlopes, Pool, Read, ListBends, FillRun}
+use Rattle.light_sheet_demands.specs.Demands.{FirstHolds, NoneHolds, Gives, ofCheck, ofLookup, ofSetting, ofSlopes, ofPool, ofReading, ofBends, ofRun, AcceptedMeans}
 
 -- ---- the law of rules, in the demands' words
 
@@ -70,6 +71,10 @@ setting-gives c = gives _ _ tt (c .answer)
 pub slopes-gives : {s t : List ℕ} {k n : ℕ} → FillSlopes s k n t → Gives ofSlopes (record { sheet = s; stiffness = k }) n
 unfolding nonzero sheetRules slopeRules slopeRefusal
 slopes-gives c = gives _ _ tt (c .answer)
+
+pub pool-gives : {a b target p a′ b′ : List ℕ} {n : ℕ} → Pool a b target n p a′ b′ → Gives ofPool (record { first = a; second = b; size = length target }) n
+unfolding nonzero sheetRules poolRules poolRefusal
+pool-gives c = gives _ _ tt (c .answer)
 
 pub reading-gives : {s t : List ℕ} {x y kind : ℕ} {r : Answer} → Read s x y kind r t →
     Gives ofReading (record { sheet = s; x = x; y = y; kind = kind }) (outcome r .number)

@@ -42,7 +42,7 @@ sized z h =
     )
 
 -- a whole number that over 64 is the float of a level is the level
-level-of-float : (w z : ℤ) → FitsFloat w → quotient (positive 64 tt) w is whole z ÷ positive 64 tt → w ≡ z
+pub level-of-float : (w z : ℤ) → FitsFloat w → quotient (positive 64 tt) w is whole z ÷ positive 64 tt → w ≡ z
 level-of-float w z h e =
     let c = quotient-laws .times 0 w h (whole z ÷ positive 64 tt) e .crossed in
     *ℤ-cancel-r 64 (lit< tt) (deduce 2 (λ w z. (⊖ # 1 · (# 64 ⊗ z ⊗ # 1 ≐ w ⊗ (# 1 ⊗ # 64))) ∷ [] ⊨ w ⊗ # 64 ≐ z ⊗ # 64) tt w z c)

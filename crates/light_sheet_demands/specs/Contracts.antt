@@ -10,6 +10,7 @@ use Rattle.sheet_layout.specs.Format.{Node}
 use Rattle.sheet_calls.specs.Refusals.{checkRefusal, lookupRefusal, settingRefusal, readingRefusal, runRefusal}
 use Rattle.sheet_calls.specs.Calls.{Part, lookedUp, withNode}
 use Rattle.sheet_slopes.specs.Slopes.{slopeRefusal, withSlopes}
+use Rattle.sheet_pool.specs.Pool.{poolRefusal, withPool}
 use Rattle.surface_answers.specs.Answers.{outcome}
 use Rattle.surface_answers.specs.declared.Answer.{Answer}
 use Rattle.surface_of_sheet.specs.Read.{read}
@@ -43,6 +44,13 @@ pub record FillSlopes (s : List ℕ) (k n : ℕ) (t : List ℕ) : Type 0 where
   pub answer : n ≡ slopeRefusal s k
   pub sheet : t ≡ withSlopes s k
 
+-- `pool` of the sheets a and b gives n and leaves target′; a′ and b′ are what the two hold at the call's end
+pub record Pool (a b target : List ℕ) (n : ℕ) (target′ a′ b′ : List ℕ) : Type 0 where
+  pub answer : n ≡ poolRefusal a b (length target)
+  pub pool : target′ ≡ withPool a b target
+  pub first : a′ ≡ a
+  pub second : b′ ≡ b
+
 -- `read` gives r: by the answer's definition its number and its values
 pub record Read (s : List ℕ) (x y kind : ℕ) (r : Answer) (t : List ℕ) : Type 0 where
   pub answer : outcome r .number ≡ readingRefusal s x y kind
@@ -67,7 +75,7 @@ pub record RunSteps (s : List ℕ) (x y : ℕ) (row : List ℤ) (budget : ℕ) (
   pub levels : row′ ≡ afterSteps s x y budget row
   pub sheet : t ≡ s
 
--- the calls for C: five meet the records above, and the three below are theirs alone
+-- the calls for C: six meet the records above, and the three below are theirs alone
 
 -- `lvs_node_offset` gives k
 pub record NodeOffset (s : List ℕ) (i j k : ℕ) (t : List ℕ) : Type 0 where

@@ -28,6 +28,7 @@ use Rattle.sheet_calls.specs.Refusals.{otherMark, otherVersion, otherCounts, ot
 use Rattle.sheet_calls.specs.WellFormed.{Inside, ConditionLaws}
 use Rattle.sheet_calls.specs.NodeLaws.{ReadsBack}
 use Rattle.sheet_slopes.specs.Slopes.{tooStiff, someTooSteep, SlopeInput}
+use Rattle.sheet_pool.specs.Pool.{secondRefused, otherLines, otherTarget, someSumOut, PoolInput}
 use Rattle.surface_answers.specs.Answers.{Outcome, outcome, Every, divisor, quotient}
 use Rattle.surface_answers.specs.AnswerLaws.{AnswerLaws, QuotientLaws, _is_}
 use Rattle.surface_answers.specs.declared.Answer.{Answer}
@@ -39,7 +40,7 @@ use Rattle.surface_of_sheet.specs.Theorems.{HalfUnitsFrom}
 use Rattle.surface_bends.specs.Bends.{tooFew, BendsInput, tally}
 use Rattle.surface_bends.specs.declared.Listed.{Listed}
 use Rattle.surface_bends.specs.declared.Listed.the-variants as listed
-use Rattle.light_sheet_demands.specs.Contracts.{Check, NodeRefusal, NodeCall, SetNode, FillSlopes, Read, ListBends, FillRun, NodeOffset, ReadInto, BendsInto}
+use Rattle.light_sheet_demands.specs.Contracts.{Check, NodeRefusal, NodeCall, SetNode, FillSlopes, Pool, Read, ListBends, FillRun, NodeOffset, ReadInto, BendsInto}
 
 -- ---- demand 1
 
@@ -78,6 +79,12 @@ ofSetting = ofSheet (λ u. u .sheet) ++ rule 10 (λ u. noNode (u .sheet) (u .col
 abbrev pub ofSlopes : List (Rule SlopeInput)
 ofSlopes = ofSheet (λ u. u .sheet) ++ rule 12 (λ u. tooStiff (u .stiffness)) ∷ rule 13 (λ u. someTooSteep (u .sheet) (u .stiffness)) ∷ []
 
+-- 02's, of #104
+abbrev pub ofPool : List (Rule PoolInput)
+ofPool =
+    ofSheet (λ u. u .first) ++ rule 15 (λ u. secondRefused (u .second)) ∷ rule 16 (λ u. otherLines (u .first) (u .second)) ∷
+    rule 17 (λ u. otherTarget (u .first) (u .size)) ∷ rule 11 (λ u. someSumOut (u .first) (u .second)) ∷ []
+
 abbrev pub ofReading : List (Rule ReadingInput)
 ofReading = ofSheet (λ u. u .sheet) ++ rule 7 (λ u. outside (u .sheet) (u .x) (u .y)) ∷ rule 9 (λ u. otherKind (u .kind)) ∷ []
 
@@ -101,12 +108,13 @@ pub record DemandOne : Type 0 where
   pub keptByRead : {s t : List ℕ} {x y kind : ℕ} {r : Answer} → Read s x y kind r t → t ≡ s
   pub keptByFillRun : {s t : List ℕ} {x y n : ℕ} {row row′ : List ℤ} → FillRun s x y row n row′ t → t ≡ s
   pub keptByBends : {s t : List ℕ} {x y : ℕ} {buffer buffer′ : List ℤ} {r : Listed} → ListBends s x y buffer r buffer′ t → t ≡ s
+  pub keptByPool : {a b target p a′ b′ : List ℕ} {n : ℕ} → Pool a b target n p a′ b′ → (a′ ≡ a) × (b′ ≡ b)
   pub keptByNodeOffset : {s t : List ℕ} {i j k : ℕ} → NodeOffset s i j k t → t ≡ s
   pub keptByReadInto : {s t : List ℕ} {x y kind n : ℕ} {array array′ : List ℕ} → ReadInto s x y kind array n array′ t → t ≡ s
   pub keptByBendsInto : {s t : List ℕ} {x y count n count′ : ℕ} {buffer buffer′ : List ℤ} → BendsInto s x y buffer count n buffer′ count′ t → t ≡ s
-  -- `set_node` is there to write the six bytes of a node, `fill_slopes` the last four bytes of each, `fill_run` all slots of the row, `bends` three places for
-  -- each piece that it counts, `lvs_bends` these and the count, and `lvs_read` as many of the array as the kind has values: one, two or three; refused, none
-  -- writes. The array is stated as words of 64 bits, so a kept slot keeps every bit, whatever it holds, a NaN too
+  -- `set_node` is there to write the six bytes of a node, `fill_slopes` the last four bytes of each, `pool` all of the target, `fill_run` all slots of the row,
+  -- `bends` three places for each piece that it counts, `lvs_bends` these and the count, and `lvs_read` as many of the array as the kind has values: one, two or
+  -- three; refused, none writes. The array is stated as words of 64 bits, so a kept slot keeps every bit, whatever it holds, a NaN too
   pub sheetSize : {s t : List ℕ} {i j n : ℕ} {v : Node} → SetNode s i j v n t → length t ≡ length s
   pub beforeNode : {s t : List ℕ} {i j n : ℕ} {v : Node} → SetNode s i j v n t → (k : ℕ) → k < nodeStart s i j → byteAt t k ≡ byteAt s k
   pub afterNode : {s t : List ℕ} {i j n : ℕ} {v : Node} → SetNode s i j v n t → (k : ℕ) → nodeStart s i j + 6 ≤ k → byteAt t k ≡ byteAt s k
@@ -115,6 +123,8 @@ pub record DemandOne : Type 0 where
   pub besideSlopes : {s t : List ℕ} {k n : ℕ} → FillSlopes s k n t → (b : ℕ) →
       ((i j c : ℕ) → i < columns s → j < rows s → c < 4 → ¬ (b ≡ nodeStart s i j + 2 + c)) → byteAt t b ≡ byteAt s b
   pub slopesRefused : {s t : List ℕ} {k n : ℕ} → FillSlopes s k n t → ¬ (n ≡ 0) → t ≡ s
+  pub poolSize : {a b target p a′ b′ : List ℕ} {n : ℕ} → Pool a b target n p a′ b′ → length p ≡ length target
+  pub poolRefused : {a b target p a′ b′ : List ℕ} {n : ℕ} → Pool a b target n p a′ b′ → ¬ (n ≡ 0) → p ≡ target
   pub rowSize : {s t : List ℕ} {x y n : ℕ} {row row′ : List ℤ} → FillRun s x y row n row′ t → length row′ ≡ length row
   pub rowRefused : {s t : List ℕ} {x y n : ℕ} {row row′ : List ℤ} → FillRun s x y row n row′ t → ¬ (n ≡ 0) → row′ ≡ row
   pub bufferSize : {s t : List ℕ} {x y : ℕ} {buffer buffer′ : List ℤ} {r : Listed} → ListBends s x y buffer r buffer′ t → length buffer′ ≡ length buffer
@@ -140,6 +150,7 @@ pub record DemandOne : Type 0 where
   pub lookup : {s t : List ℕ} {i j n : ℕ} → NodeRefusal s i j n t → Gives ofLookup (record { sheet = s; column = i; row = j }) n
   pub setting : {s t : List ℕ} {i j n : ℕ} {v : Node} → SetNode s i j v n t → Gives ofSetting (record { sheet = s; column = i; row = j; numbers = v }) n
   pub slopes : {s t : List ℕ} {k n : ℕ} → FillSlopes s k n t → Gives ofSlopes (record { sheet = s; stiffness = k }) n
+  pub pool : {a b target p a′ b′ : List ℕ} {n : ℕ} → Pool a b target n p a′ b′ → Gives ofPool (record { first = a; second = b; size = length target }) n
   pub reading : {s t : List ℕ} {x y kind : ℕ} {r : Answer} → Read s x y kind r t →
       Gives ofReading (record { sheet = s; x = x; y = y; kind = kind }) (outcome r .number)
   pub arrayReading : {s t : List ℕ} {x y kind n : ℕ} {array array′ : List ℕ} → ReadInto s x y kind array n array′ t →

@@ -3,3 +3,4 @@ pub mod Demands
 pub mod Slopes
 pub mod Bends
 pub mod Growing
+pub mod Pooling

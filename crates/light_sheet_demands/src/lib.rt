@@ -5,6 +5,7 @@ ghost use Rattle.light_sheet_demands.specs.Demands.{DemandOne, DemandTwo
 ghost use Rattle.light_sheet_demands.specs.Slopes.{SlopeFilling};
 ghost use Rattle.light_sheet_demands.specs.Bends.{BothSides};
 ghost use Rattle.light_sheet_demands.specs.Growing.{RowGrows};
+ghost use Rattle.light_sheet_demands.specs.Pooling.{SheetsPooled};
 
 pub fn demand_one() -> u64
     ensures { λ r. ⌜ (r ≡ 0) × DemandOne ⌝ }
@@ -38,6 +39,12 @@ pub fn both_sides() -> u64
 
 pub fn row_grows() -> u64
     ensures { λ r. ⌜ (r ≡ 0) × RowGrows ⌝ }
+{
+    0
+}
+
+pub fn sheets_pooled() -> u64
+    ensures { λ r. ⌜ (r ≡ 0) × SheetsPooled ⌝ }
 {
     0
 }

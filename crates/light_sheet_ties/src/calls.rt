@@ -1,6 +1,6 @@
 // The public calls, each with its record for a contract.
 ghost use Rattle.sheet_layout.specs.Format.{node};
-ghost use Rattle.light_sheet_demands.specs.Contracts.{Check, NodeRefusal, NodeCall, SetNode, FillSlopes, Read, ListBends, FillRun};
+ghost use Rattle.light_sheet_demands.specs.Contracts.{Check, NodeRefusal, NodeCall, SetNode, FillSlopes, Pool, Read, ListBends, FillRun};
 use surface_answers::Answer;
 use surface_bends::Listed;
 
@@ -39,6 +39,12 @@ pub fn fill_slopes(sheet: &mut [u8], stiffness: u32) -> u32
     ensures { λ r. ⌜ FillSlopes (now (sheet .entry)) stiffness r (now (sheet .exit)) ⌝ }
 {
     light_sheet::fill_slopes(sheet, stiffness)
+}
+
+pub fn pool(first: &[u8], second: &[u8], target: &mut [u8]) -> u32
+    ensures { λ r. ⌜ Pool (now (first .entry)) (now (second .entry)) (now (target .entry)) r (now (target .exit)) (now (first .exit)) (now (second .exit)) ⌝ }
+{
+    light_sheet::pool(first, second, target)
 }
 
 pub fn read(sheet: &[u8], x: u32, y: u32, kind: u32) -> Answer

@@ -1,6 +1,6 @@
 // The calls for C and Rust, each with its record for a contract.
 ghost use Rattle.sheet_layout.specs.Format.{node};
-ghost use Rattle.light_sheet_demands.specs.Contracts.{Check, NodeRefusal, NodeOffset, SetNode, FillSlopes, ReadInto, BendsInto, FillRun};
+ghost use Rattle.light_sheet_demands.specs.Contracts.{Check, NodeRefusal, NodeOffset, SetNode, FillSlopes, Pool, ReadInto, BendsInto, FillRun};
 
 pub fn check(sheet: &[u8]) -> u32
     ensures { λ r. ⌜ Check (now (sheet .entry)) r (now (sheet .exit)) ⌝ }
@@ -37,6 +37,12 @@ pub fn fill_slopes(sheet: &mut [u8], stiffness: u32) -> u32
     ensures { λ r. ⌜ FillSlopes (now (sheet .entry)) stiffness r (now (sheet .exit)) ⌝ }
 {
     light_sheet_c::lvs_fill_slopes(sheet, stiffness)
+}
+
+pub fn pool(first: &[u8], second: &[u8], target: &mut [u8]) -> u32
+    ensures { λ r. ⌜ Pool (now (first .entry)) (now (second .entry)) (now (target .entry)) r (now (target .exit)) (now (first .exit)) (now (second .exit)) ⌝ }
+{
+    light_sheet_c::lvs_pool(first, second, target)
 }
 
 pub fn read(sheet: &[u8], x: u32, y: u32, kind: u32, values: &mut [u64; 3]) -> u32

@@ -6,16 +6,19 @@ use mathlib.Core.Bool.{true}
 use native.Mathlib.Nat.{mul-suc, mul-comm, mul-assoc, mul-le-mul-left}
 use native.Mathlib.Omega.{arith}
 use lib.ListN.{length, take, drop, length-append, length-drop, List·getD-append}
-use lib.Seq.{length-take-le, getD-take, drop-drop}
-use Rattle.sheet_words.specs.Word.{byteAt}
-use Rattle.sheet_layout.specs.Format.{columns, rows, decoded, nodeIn, nodeSize, nodesOffset, nodeBytes, nodeAt, statedSize}
-use Rattle.sheet_layout.proofs.SameFront.{SameFront, same-columns, same-rows, same-lineX, same-lineY, same-offset}
+use lib.Seq.{length-take-le, getD-take, drop-drop, take-all, take-add}
+use Rattle.sheet_words.specs.Word.{byteAt, Bytes}
+use Rattle.sheet_words.proofs.Bytes.{bytes-append}
+use Rattle.sheet_words.proofs.Replaced.{stretch-bytes}
+use Rattle.sheet_layout.specs.Format.{columns, rows, decoded, nodeIn, nodeSize, nodesOffset, nodeOffset, nodeBytes, nodeAt, statedSize}
+use Rattle.sheet_layout.proofs.SameFront.{SameFront, same-columns, same-rows, same-offset}
+use Rattle.sheet_layout.proofs.SameLines.{front-lines}
 use Rattle.sheet_calls.specs.Refusals.{Accepted}
 use Rattle.sheet_calls.proofs.Ranges.{node-in-range}
 use Rattle.sheet_calls.proofs.WellFormed.{accepted-laws}
 use Rattle.sheet_calls.proofs.StaysWellFormed.{same-well-formed}
 use Rattle.sheet_assembly.specs.Assembled.{inOrder, assembled, Whole, AssemblyLaws}
-use Rattle.sheet_assembly.proofs.InOrder.{in-order-length, in-order-at, in-order-same}
+use Rattle.sheet_assembly.proofs.InOrder.{in-order-length, in-order-at, in-order-same, in-order-bytes, in-order-stretches}
 use Rattle.sheet_assembly.proofs.Stretches.{inner-stretch, drop-past, same-take}
 
 -- the bytes of row j, and those of all rows
@@ -99,15 +102,40 @@ same-assembled {s} {r} {b} {c} same h h′ nodes =
     let rest = in-order-same (row s c) (row s b) (rows s) (λ j k. in-order-same _ _ (columns s) (λ i h. nodes i j h k)) in
     rw (same-columns same, same-rows same) (λ i. lines i ++ rest i)
 
+-- ---- of its own nodes
+
+bytes : (s : List ℕ) (b : ℕ → ℕ → List ℕ) → Bytes s → ((i j : ℕ) → i < columns s → j < rows s → Bytes (b i j)) → Bytes (assembled s b)
+unfolding assembled
+bytes s b front nodes =
+    bytes-append (take (nodesOffset s) s) (body s b) (stretch-bytes s 0 (nodesOffset s) front)
+    (in-order-bytes (row s b) (rows s) (λ j k. in-order-bytes _ (columns s) (λ i h. nodes i j h k)))
+
+module _ (s : List ℕ) where
+  own-row : (j : ℕ) → row s (nodeBytes s) j ≡ take (nodeSize * columns s) (drop (nodesOffset s + nodeSize * columns s * j) s)
+  own-row j =
+      in-order-same _ _ (columns s) (λ i h. ap (λ at. take nodeSize (drop at s)) (along i))
+      ∙ in-order-stretches s (nodesOffset s + nodeSize * columns s * j) nodeSize (columns s)
+    where
+      along : (i : ℕ) → nodeOffset s i j ≡ nodesOffset s + nodeSize * columns s * j + nodeSize * i
+      along i = omega (arith, mul-assoc nodeSize (columns s) j, mul-comm (columns s) j)
+
+  own-body : body s (nodeBytes s) ≡ take (nodeSize * columns s * rows s) (drop (nodesOffset s) s)
+  own-body = in-order-same _ _ (rows s) (λ j k. own-row j) ∙ in-order-stretches s (nodesOffset s) (nodeSize * columns s) (rows s)
+
+  itself : length s ≡ statedSize s → assembled s (nodeBytes s) ≡ s
+  unfolding assembled
+  itself e =
+      rw (own-body, ← take-add (nodesOffset s) (nodeSize * columns s * rows s) s)
+      (take-all (nodesOffset s + nodeSize * columns s * rows s) s (omega (arith, e, mul-assoc nodeSize (columns s) (rows s))))
+
 pub assembly-laws : AssemblyLaws
 assembly-laws = record {
   size = λ s b. size;
   front = λ s b. front;
-  columnsStay = λ s b whole. same-columns (assembled-front whole);
-  rowsStay = λ s b whole. same-rows (assembled-front whole);
-  linesX = λ s b whole. same-lineX (assembled-front whole);
-  linesY = λ s b whole. same-lineY (assembled-front whole);
+  lines = λ s b whole. front-lines (assembled-front whole);
   nodes = λ s b. nodes;
   numbers = λ s b. numbers;
   accepted = λ s b. accepted;
+  bytes = bytes;
+  itself = itself;
 }

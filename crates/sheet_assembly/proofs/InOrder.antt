@@ -1,12 +1,14 @@
--- Things of one length, a, one behind the other: how long they are together, and where each lies. Assumes nothing.
-use Prim.Native.Nat.{ℕ, zero, suc, _*_, _<_}
-use mathlib.Core.Path.{_≡_, refl, _∙_}
+-- Things one behind the other: how long they are together, and where each lies, where all have one length, a; and stretches of a list. Assumes nothing.
+use Prim.Native.Nat.{ℕ, zero, suc, _+_, _*_, _<_}
+use mathlib.Core.Path.{_≡_, refl, sym, _∙_}
 use mathlib.Core.Logic.{⊎-elim}
-use mathlib.Core.List.{List, _++_}
-use native.Mathlib.Nat.{mul-suc, mul-le-mul-left, le-of-suc-le-suc, le-step, lt-suc-self, le-of-eq, eq-or-lt-of-le}
+use mathlib.Core.List.{List, _++_, append-assoc, append-nil}
+use native.Mathlib.Nat.{add-zero, add-suc, zero-mul, suc-mul, mul-zero, mul-suc, mul-le-mul-left, le-of-suc-le-suc, le-step, lt-suc-self, le-of-eq, eq-or-lt-of-le}
 use native.Mathlib.Omega.{arith}
 use lib.ListN.{length, take, drop, length-append}
-use lib.Seq.{take-all, drop-at}
+use lib.Seq.{take-all, drop-at, drop-drop, take-add}
+use Rattle.sheet_words.specs.Word.{Bytes}
+use Rattle.sheet_words.proofs.Bytes.{bytes-append}
 use Rattle.sheet_assembly.specs.Assembled.{inOrder}
 use Rattle.sheet_assembly.proofs.Stretches.{front-stretch}
 
@@ -38,3 +40,28 @@ module _ (f : ℕ → List ℕ) (a : ℕ) where
 
       earlier : k < n → take a (drop (a * k) (inOrder f n)) ≡ f k → take a (drop (a * k) (inOrder f n ++ f n)) ≡ f k
       earlier l there = front-stretch (inOrder f n) (f n) (a * k) a (omega (arith, size, mul-suc a k, mul-le-mul-left a l)) ∙ there
+
+pub in-order-bytes : (f : ℕ → List ℕ) (n : ℕ) → ((k : ℕ) → k < n → Bytes (f k)) → Bytes (inOrder f n)
+unfolding inOrder Bytes
+in-order-bytes f zero each = λ i. omega arith
+in-order-bytes f (suc n) each = bytes-append (inOrder f n) (f n) (in-order-bytes f n (λ k h. each k (le-step h))) (each n (lt-suc-self n))
+
+-- the stretches of length a from index o on, one behind the other, are one
+pub in-order-stretches : (s : List ℕ) (o a n : ℕ) → inOrder (λ k. take a (drop (o + a * k) s)) n ≡ take (a * n) (drop o s)
+unfolding inOrder
+in-order-stretches s o a zero = rw (mul-zero a) refl
+in-order-stretches s o a (suc n) =
+    rw (in-order-stretches s o a n, ← drop-drop (a * n) o s, ← take-add (a * n) a (drop o s), mul-suc a n) refl
+
+-- ---- one loop for several
+
+in-order-append : (f : ℕ → List ℕ) (a b : ℕ) → inOrder f (a + b) ≡ inOrder f a ++ inOrder (λ k. f (a + k)) b
+unfolding inOrder
+in-order-append f a zero = rw (add-zero a) (sym (append-nil (inOrder f a)))
+in-order-append f a (suc b) = rw (add-suc a b, in-order-append f a b) (append-assoc (inOrder f a) _ _)
+
+-- n rows of m each
+pub in-order-rows : (f : ℕ → List ℕ) (m n : ℕ) → inOrder f (n * m) ≡ inOrder (λ j. inOrder (λ i. f (j * m + i)) m) n
+unfolding inOrder
+in-order-rows f m zero = rw (zero-mul m) refl
+in-order-rows f m (suc n) = rw (suc-mul n m, in-order-append f (n * m) m, in-order-rows f m n) refl

@@ -4,8 +4,9 @@ use mathlib.Core.Path.{_≡_}
 use mathlib.Core.List.{List, [], _++_}
 use mathlib.Core.Bool.{true}
 use lib.ListN.{length, take}
-use Rattle.sheet_words.specs.Word.{byteAt}
-use Rattle.sheet_layout.specs.Format.{columns, rows, lineX, lineY, decoded, nodeIn, nodeSize, nodesOffset, nodeBytes, nodeAt, statedSize}
+use Rattle.sheet_words.specs.Word.{byteAt, Bytes}
+use Rattle.sheet_layout.specs.Format.{columns, rows, decoded, nodeIn, nodeSize, nodesOffset, nodeBytes, nodeAt, statedSize}
+use Rattle.sheet_layout.specs.SameLines.{SameLines}
 use Rattle.sheet_calls.specs.Refusals.{Accepted}
 
 -- the bytes of n things, one behind the other
@@ -28,13 +29,13 @@ pub record AssemblyLaws : Type 0 where
   pub size : (s : List ℕ) (b : ℕ → ℕ → List ℕ) → Whole s b → length (assembled s b) ≡ statedSize s
   -- what comes before the nodes stays, byte by byte; so do the lines
   pub front : (s : List ℕ) (b : ℕ → ℕ → List ℕ) → Whole s b → (k : ℕ) → k < nodesOffset s → byteAt (assembled s b) k ≡ byteAt s k
-  pub columnsStay : (s : List ℕ) (b : ℕ → ℕ → List ℕ) → Whole s b → columns (assembled s b) ≡ columns s
-  pub rowsStay : (s : List ℕ) (b : ℕ → ℕ → List ℕ) → Whole s b → rows (assembled s b) ≡ rows s
-  pub linesX : (s : List ℕ) (b : ℕ → ℕ → List ℕ) → Whole s b → (k : ℕ) → k < columns s → lineX (assembled s b) k ≡ lineX s k
-  pub linesY : (s : List ℕ) (b : ℕ → ℕ → List ℕ) → Whole s b → (k : ℕ) → k < rows s → lineY (assembled s b) k ≡ lineY s k
+  pub lines : (s : List ℕ) (b : ℕ → ℕ → List ℕ) → Whole s b → SameLines s (assembled s b)
   -- each node has its bytes, and their numbers
   pub nodes : (s : List ℕ) (b : ℕ → ℕ → List ℕ) → Whole s b → (i j : ℕ) → i < columns s → j < rows s → nodeBytes (assembled s b) i j ≡ b i j
   pub numbers : (s : List ℕ) (b : ℕ → ℕ → List ℕ) → Whole s b → (i j : ℕ) → i < columns s → j < rows s → nodeAt (assembled s b) i j ≡ decoded (b i j)
   -- it is accepted where s is, and the new numbers are in range
   pub accepted : (s : List ℕ) (b : ℕ → ℕ → List ℕ) → Whole s b → Accepted s →
       ((i j : ℕ) → i < columns s → j < rows s → nodeIn (decoded (b i j)) ≡ true) → Accepted (assembled s b)
+  -- bytes from bytes; and a sheet of its stated length is put together from its own nodes
+  pub bytes : (s : List ℕ) (b : ℕ → ℕ → List ℕ) → Bytes s → ((i j : ℕ) → i < columns s → j < rows s → Bytes (b i j)) → Bytes (assembled s b)
+  pub itself : (s : List ℕ) → length s ≡ statedSize s → assembled s (nodeBytes s) ≡ s

@@ -19,7 +19,8 @@ use Rattle.sheet_calls.proofs.Ranges.{node-in-range}
 use Rattle.sheet_calls.proofs.WellFormed.{accepted-laws}
 use Rattle.sheet_layout.proofs.Encoding.{encoded-bytes, encoding-laws}
 use Rattle.sheet_calls.proofs.Lookup.{has-fits}
-use Rattle.sheet_layout.proofs.SameFront.{SameFront, same-columns, same-rows, same-lineX, same-lineY}
+use Rattle.sheet_layout.proofs.SameFront.{SameFront, same-columns, same-rows}
+use Rattle.sheet_layout.proofs.SameLines.{front-lines}
 use Rattle.sheet_layout.proofs.Written.{written, written-length, written-before, written-after, written-bytes, written-node, written-others, written-again, written-same}
 use Rattle.sheet_calls.proofs.StaysWellFormed.{written-well-formed}
 
@@ -120,10 +121,7 @@ leaves s i j v = record {
   after = after s i j v;
   bytes = bytes s i j v;
   accepted = accepted s i j v;
-  columnsStay = columns-stay s i j v;
-  rowsStay = rows-stay s i j v;
-  linesX = same-lineX (front s i j v);
-  linesY = same-lineY (front s i j v);
+  lines = front-lines (front s i j v);
   others = others s i j v;
 }
 

@@ -4,7 +4,8 @@ use mathlib.Core.Path.{_≡_}
 use mathlib.Core.List.{List, []}
 use lib.ListN.{length}
 use Rattle.sheet_words.specs.Word.{byteAt, Bytes}
-use Rattle.sheet_layout.specs.Format.{columns, rows, lineX, lineY, Node, decoded, encoded, nodeSize, nodeOffset, nodeAt}
+use Rattle.sheet_layout.specs.Format.{columns, rows, Node, decoded, encoded, nodeSize, nodeOffset, nodeAt}
+use Rattle.sheet_layout.specs.SameLines.{SameLines}
 use Rattle.sheet_calls.specs.Refusals.{lookupRefusal, settingRefusal, Accepted}
 use Rattle.sheet_calls.specs.Calls.{stretch, lookedUp, bytesIn, withNode}
 
@@ -30,10 +31,7 @@ pub record Leaves (s : List ℕ) (i j : ℕ) (t : List ℕ) : Type 0 where
   pub bytes : Bytes s → Bytes t
   -- an accepted sheet, with the same lines
   pub accepted : Accepted s → Accepted t
-  pub columnsStay : columns t ≡ columns s
-  pub rowsStay : rows t ≡ rows s
-  pub linesX : (k : ℕ) → k < columns s → lineX t k ≡ lineX s k
-  pub linesY : (k : ℕ) → k < rows s → lineY t k ≡ lineY s k
+  pub lines : SameLines s t
   -- every other node
   pub others : (i′ j′ : ℕ) → i′ < columns s → ¬ ((i′ ≡ i) × (j′ ≡ j)) → nodeAt t i′ j′ ≡ nodeAt s i′ j′
 

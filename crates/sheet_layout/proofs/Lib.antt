@@ -8,5 +8,6 @@ pub mod Decoding
 pub mod Numbers
 pub mod Offsets
 pub mod SameFront
+pub mod SameLines
 pub mod Written
 mod Examples

@@ -6,12 +6,12 @@ use mathlib.Core.Bool.{Bool, true, false, not, _&&_, _||_, or-false}
 use native.Mathlib.Nat.{mul-comm}
 use native.Mathlib.Omega.{arith}
 use lib.Dec.{leb, ltb, ltb→lt, nltb→le, lit<}
-use lib.IntN.{pos, negsuc, natAbs}
+use lib.IntN.{ℤ, pos, negsuc, natAbs}
 use borrow.Author.Tests.{leb-true, le-leb, lt-leb}
 use Rattle.integers.proofs.Order.{cond-ind}
 use Rattle.sheet_words.specs.Word.{wordAt, signed}
 use Rattle.sheet_words.proofs.Replaced.{stretch-word}
-use Rattle.sheet_layout.specs.Format.{columns, rows, decoded, heightIn, slopeIn, nodeIn, nodesOffset, nodeSize, nodeOffset, nodeBytes, nodeAt, someNodeOut}
+use Rattle.sheet_layout.specs.Format.{columns, rows, Node, node, decoded, heightIn, slopeIn, nodeIn, nodesOffset, nodeSize, nodeOffset, nodeBytes, nodeAt, someNodeOut}
 use Rattle.sheet_layout.specs.Some.{some}
 use Rattle.sheet_layout.proofs.Gathered.{some-cong, some-rows}
 
@@ -35,45 +35,54 @@ bits-in w h =
     (λ t. let k = nltb→le w 32768 t in
     rw (lt-leb w 4095 (omega (arith, k))) (same-test 61441 w (suc (65535 - w)) 4095 (λ q. omega (arith, q, h)) (λ q. omega (arith, q, h))))
 
--- ---- a node's numbers in the sheet
-
 not-and : (a b c : Bool) → not (a && b && c) ≡ not a || not b || not c
 not-and true true c = refl
 not-and true false c = refl
 not-and false b c = refl
 
-module _ (s : List ℕ) where
-  -- number k of all is out of range
+-- ---- numbers one after the other, three a node
+
+module _ (n : ℕ → ℤ) where
+  -- the node that has three of them, from number k on
+  abbrev pub nodeFrom : ℕ → Node
+  nodeFrom k = node (n (k + 0)) (n (k + 1)) (n (k + 2))
+
+  -- number k is out of range
   abbrev wrongNumber : ℕ → Bool
-  wrongNumber k = not (slopeIn (signed (wordAt s (nodesOffset s + 2 * k))))
+  wrongNumber k = not (slopeIn (n k))
+
+  wrong-node : (k : ℕ) → not (nodeIn (nodeFrom k)) ≡ some (λ i. wrongNumber (k + i)) 3
+  unfolding nodeIn heightIn slopeIn some
+  wrong-node k = not-and (slopeIn (n (k + 0))) (slopeIn (n (k + 1))) (slopeIn (n (k + 2)))
+
+  -- one loop over all does for loops over r rows of m nodes
+  pub some-numbers : (m r : ℕ) → some wrongNumber (3 * (m * r)) ≡ some (λ j. some (λ i. not (nodeIn (nodeFrom ((j * m + i) * 3)))) m) r
+  some-numbers m r =
+      let count : 3 * (m * r) ≡ r * m * 3 = mul-comm 3 _ ∙ ap (λ k. k * 3) (mul-comm m r) in
+      rw (count, some-rows wrongNumber 3 (r * m), some-rows (λ k. some (λ i. wrongNumber (k * 3 + i)) 3) m r)
+      (some-cong _ _ r (λ j k. some-cong _ _ m (λ i h. sym (wrong-node ((j * m + i) * 3)))))
+
+-- ---- those of a sheet
+
+module _ (s : List ℕ) where
+  -- number k of all
+  abbrev pub numberOf : ℕ → ℤ
+  numberOf k = signed (wordAt s (nodesOffset s + 2 * k))
 
   module _ (i j : ℕ) where
     -- the k-th of a node's numbers, among those of all nodes
-    node-word : (k w : ℕ) → 2 * k ≡ w → w + 1 < nodeSize → wordAt (nodeBytes s i j) w ≡ wordAt s (nodesOffset s + 2 * ((j * columns s + i) * 3 + k))
-    node-word k w e h =
+    node-number : (k w : ℕ) → 2 * k ≡ w → w + 1 < nodeSize → signed (wordAt (nodeBytes s i j) w) ≡ numberOf ((j * columns s + i) * 3 + k)
+    node-number k w e h =
         let at : nodeOffset s i j + w ≡ nodesOffset s + 2 * ((j * columns s + i) * 3 + k) = omega (arith, e) in
-        stretch-word s _ nodeSize w h ∙ ap (wordAt s) at
+        ap signed (stretch-word s _ nodeSize w h ∙ ap (wordAt s) at)
 
-    -- the number at index w of a node's bytes is in range
-    fits : ℕ → Bool
-    fits w = slopeIn (signed (wordAt (nodeBytes s i j) w))
-
-    fits-not : (k w : ℕ) → 2 * k ≡ w → w + 1 < nodeSize → not (fits w) ≡ wrongNumber ((j * columns s + i) * 3 + k)
-    unfolding fits
-    fits-not k w e h = ap (λ x. not (slopeIn (signed x))) (node-word k w e h)
-
-    wrong-node : not (nodeIn (nodeAt s i j)) ≡ some (λ k. wrongNumber ((j * columns s + i) * 3 + k)) 3
-    unfolding nodeAt decoded nodeIn heightIn slopeIn some fits
-    wrong-node =
-        let h = fits-not 0 0 refl (lit< tt) in
-        let p = fits-not 1 2 refl (lit< tt) in
-        let q = fits-not 2 4 refl (lit< tt) in
-        not-and (fits 0) (fits 2) (fits 4) ∙ (λ t. h t || p t || q t)
+    pub node-numbers : nodeAt s i j ≡ nodeFrom numberOf ((j * columns s + i) * 3)
+    unfolding nodeAt decoded
+    node-numbers = rw (node-number 0 0 refl (lit< tt), node-number 1 2 refl (lit< tt), node-number 2 4 refl (lit< tt)) refl
 
   -- one loop over all numbers
-  pub some-out : some wrongNumber (3 * (columns s * rows s)) ≡ someNodeOut s
+  pub some-out : some (λ k. not (slopeIn (numberOf k))) (3 * (columns s * rows s)) ≡ someNodeOut s
   unfolding someNodeOut
   some-out =
-      let count : 3 * (columns s * rows s) ≡ rows s * columns s * 3 = mul-comm 3 _ ∙ ap (λ k. k * 3) (mul-comm (columns s) (rows s)) in
-      rw (count, some-rows wrongNumber 3 (rows s * columns s), some-rows (λ k. some (λ i. wrongNumber (k * 3 + i)) 3) (columns s) (rows s))
-      (some-cong _ _ (rows s) (λ j k. some-cong _ _ (columns s) (λ i h. sym (wrong-node i j))))
+      some-numbers numberOf (columns s) (rows s)
+      ∙ some-cong _ _ (rows s) (λ j k. some-cong _ _ (columns s) (λ i h. ap (λ v. not (nodeIn v)) (sym (node-numbers i j))))

@@ -33,7 +33,7 @@ fn some_word_out(sheet: &[u8], start: usize, count: usize) -> bool
 }
 
 // Of the 16 bits of a signed number: up to 4,095, or from 65,536 − 4,095 on.
-fn word_in_range(bits: u32) -> bool
+pub fn word_in_range(bits: u32) -> bool
     requires { ⌜ bits < 65536 ⌝ }
     ensures { λ r. ⌜ r ≡ slopeIn (signed bits) ⌝ }
 {

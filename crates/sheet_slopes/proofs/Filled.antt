@@ -14,7 +14,8 @@ use Rattle.sheet_words.specs.Word.{byteAt, bytesOf}
 use Rattle.sheet_layout.specs.Format.{columns, rows, node, decoded, slopeBytes, heightSize, steepest, nodeIn, nodeOffset, nodeAt}
 use Rattle.sheet_layout.proofs.Encoding.{number-back}
 use Rattle.sheet_layout.proofs.NodeRange.{slope-in}
-use Rattle.sheet_layout.proofs.SameFront.{same-columns, same-rows, same-lineX, same-lineY, same-offset}
+use Rattle.sheet_layout.proofs.SameFront.{same-columns, same-rows, same-offset}
+use Rattle.sheet_layout.proofs.SameLines.{front-lines}
 use Rattle.sheet_calls.specs.Refusals.{Accepted}
 use Rattle.sheet_calls.proofs.Ranges.{node-in-range}
 use Rattle.sheet_calls.proofs.Conditions.{condition-laws}
@@ -69,10 +70,7 @@ full-filled {s} {t} f a =
     record {
       accepted = assembly-laws .accepted s _ whole a (λ i j h k. in-range f i j h k a);
       same = same;
-      columnsStay = same-columns front;
-      rowsStay = same-rows front;
-      linesX = same-lineX front;
-      linesY = same-lineY front;
+      lines = front-lines front;
       nodes = λ i j h k. assembly-laws .numbers s _ whole i j h k ∙ numbers f i j h k;
     }
 

@@ -9,6 +9,7 @@ use Rattle.integers.specs.Within.{_within_}
 use Rattle.integers.specs.Round.{round}
 use Rattle.sheet_words.specs.Word.{byteAt}
 use Rattle.sheet_layout.specs.Format.{columns, rows, lineX, lineY, node, heightSize, nodeOffset, nodeAt, grainsPerStep}
+use Rattle.sheet_layout.specs.SameLines.{SameLines}
 use Rattle.sheet_calls.specs.Refusals.{Accepted}
 use Rattle.sheet_calls.specs.WellFormed.{Rising}
 use Rattle.sheet_slopes.specs.Slopes.{SameHeights, previous, next, rise, distance, slopeAlong, filledX, filledY, tooStiff, someTooSteep, slopeRules, slopeRefusal, withSlopes}
@@ -25,10 +26,7 @@ pub record NeighbourLaws : Type 0 where
 pub record Filled (s : List ℕ) (t : ℕ) (r : List ℕ) : Type 0 where
   pub accepted : Accepted r
   pub same : SameHeights s r
-  pub columnsStay : columns r ≡ columns s
-  pub rowsStay : rows r ≡ rows s
-  pub linesX : (k : ℕ) → k < columns s → lineX r k ≡ lineX s k
-  pub linesY : (k : ℕ) → k < rows s → lineY r k ≡ lineY s k
+  pub lines : SameLines s r
   -- each node has its height and the slopes defined
   pub nodes : (i j : ℕ) → i < columns s → j < rows s → nodeAt r i j ≡ node (nodeAt s i j .storedHeight) (filledX s t i j) (filledY s t i j)
 

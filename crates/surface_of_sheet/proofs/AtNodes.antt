@@ -121,13 +121,13 @@ module _ (s : List ℕ) (i j : ℕ) (v : Node) (e : settingRefusal s i j v ≡ 0
   has : HasNode t i j
   has =
       let h = setting-held s i j v e .0 in
-      record { accepted = leaves .accepted (h .accepted); column = rw (leaves .columnsStay) (h .column); row = rw (leaves .rowsStay) (h .row) }
+      record { accepted = leaves .accepted (h .accepted); column = rw (leaves .lines .sameColumns) (h .column); row = rw (leaves .lines .sameRows) (h .row) }
 
   back : ReadsBack i j v t
   back = setting-laws .readsBack s i j v e
 
   lines : (lineX s i ≡ lineX t i) × (lineY s j ≡ lineY t j)
-  lines = let h = setting-held s i j v e .0 in (sym (leaves .linesX i (h .column)), sym (leaves .linesY j (h .row)))
+  lines = let h = setting-held s i j v e .0 in (sym (leaves .lines .sameX i (h .column)), sym (leaves .lines .sameY j (h .row)))
 
   set-level : read t (lineX s i) (lineY s j) 0 ≡ answered 0 ((grainsPerStep *ℤ v .storedHeight) ∷ [])
   unfolding heightAt

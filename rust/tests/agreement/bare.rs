@@ -8,6 +8,9 @@ use crate::call::Call;
 pub struct Places {
     pub sheet: *mut u8,
     pub len: usize,
+    pub second: *const u8,
+    pub second_len: usize,
+    pub target: *mut u8,
     pub values: *mut [f64; 3],
     pub row: *mut i32,
     pub bends: *mut i64,
@@ -18,11 +21,11 @@ pub struct Places {
 ///
 /// # Safety
 ///
-/// The sheet is lent in its length, the values for three numbers, the row for the call's count, the
-/// bends for the call's places, the pieces for one number.
+/// Both sheets are lent in their lengths, the target in the call's, the values for three numbers,
+/// the row for the call's count, the bends for the call's places, the pieces for one number.
 /// The sheet may be written if the call is there to write it.
 pub unsafe fn make(call: &Call, places: &Places) -> usize {
-    let Places { sheet, len, values, row: levels, bends, pieces } = *places;
+    let Places { sheet, len, values, row: levels, bends, pieces, .. } = *places;
     // SAFETY: the caller vouches for what is lent.
     let number = unsafe {
         match *call {
@@ -35,6 +38,10 @@ pub unsafe fn make(call: &Call, places: &Places) -> usize {
                 ffi::lvs_set_node(sheet, len, column, row, height, x_slope, y_slope)
             }
             Call::FillSlopes { stiffness } => ffi::lvs_fill_slopes(sheet, len, stiffness),
+            Call::Pool { target: target_len } => {
+                let Places { second, second_len, target, .. } = *places;
+                ffi::lvs_pool(sheet, len, second, second_len, target, target_len)
+            }
             Call::Read { x, y, kind } => ffi::lvs_read(sheet, len, x, y, kind, values),
             Call::Bends { x, y, places } => ffi::lvs_bends(sheet, len, x, y, bends, places, pieces),
             Call::FillRun { x, y, count } => ffi::lvs_fill_run(sheet, len, x, y, levels, count),

@@ -5,16 +5,18 @@ use crate::call::{Call, Outcome, Written};
 use crate::lent::{untouchable, Lent, Place};
 use crate::patterns;
 use crate::random::Random;
+use crate::requests::digits;
 use crate::sheet::Sheet;
 use crate::tally::Tally;
 use crate::wrapped;
 
-/// The longest sheet and the longest run that are lent memory one may touch.
+/// The longest sheet or target and the longest run that are lent memory one may touch.
 pub const LONGEST_SHEET: usize = 60_000;
 pub const LONGEST_RUN: usize = 70_000;
 /// The most places for bends that are lent memory of their own.
 pub const MOST_PLACES: usize = 40;
-/// The longest run at all, always refused, and the most places: the count does not fit 32 bits.
+/// The longest run or target at all, always refused, and the most places: the count does not fit 32
+/// bits.
 pub const FAR: usize = (1 << 32) + 10_000;
 /// Of memory that long this many bytes are watched: more than a run or bends can fill.
 const FAR_WATCHED: usize = 20_000;
@@ -25,12 +27,15 @@ pub struct Bench {
     name: String,
     sheet: Lent,
     decoded: Result<Sheet, u32>,
+    second: Lent,
+    second_decoded: Result<Sheet, u32>,
+    target: Lent,
     values: Lent,
     row: Lent,
     bends: Lent,
     pieces: Lent,
     far: Lent,
-    untouchable_row: *mut u8,
+    untouchable: *mut u8,
     turns: Random,
     pub tally: Tally,
 }
@@ -43,32 +48,48 @@ impl Bench {
             name: String::new(),
             sheet: Lent::new(LONGEST_SHEET),
             decoded: Err(1),
+            second: Lent::new(LONGEST_SHEET),
+            second_decoded: Err(1),
+            target: Lent::new(LONGEST_SHEET),
             values: Lent::new(size_of::<[f64; 3]>()),
             row: Lent::new(size_of::<i32>() * LONGEST_RUN),
             bends: Lent::new(size_of::<i64>() * MOST_PLACES),
             pieces: Lent::new(size_of::<u32>()),
             far,
-            untouchable_row: untouchable(size_of::<i32>() * FAR),
+            untouchable: untouchable(size_of::<i32>() * FAR),
             turns: Random::new(seed),
             tally: Tally::default(),
         }
     }
 
-    /// Lends a sheet to the calls that follow.
+    /// Lends a sheet to the calls that follow, and counts it.
     pub fn lay(&mut self, name: &str, bytes: &[u8]) {
-        self.name = name.to_string();
-        let turn = self.turns.next();
-        self.sheet.allow_writing(true);
-        self.sheet.lend(bytes.len(), Place::in_turn(turn, 1), turn);
-        self.sheet.expect(0, bytes);
-        self.sheet.restore();
-        self.decoded = Sheet::decode(bytes);
+        self.lay_again(name, bytes);
         self.tally.count_sheet(&self.decoded);
+    }
+
+    /// The same, uncounted, for the many pools of a few sheets.
+    pub fn lay_again(&mut self, name: &str, bytes: &[u8]) {
+        self.name = name.to_string();
+        self.sheet.lend_holding(bytes, 1, self.turns.next());
+        self.decoded = Sheet::decode(bytes);
+    }
+
+    /// Lends a second sheet, only to be read, to the pools that follow.
+    pub fn lay_second(&mut self, bytes: &[u8]) {
+        self.second.lend_holding(bytes, 1, self.turns.next());
+        self.second.allow_writing(false);
+        self.second_decoded = Sheet::decode(bytes);
     }
 
     /// The sheet that lies there, if it is accepted.
     pub fn sheet(&self) -> Option<&Sheet> {
         self.decoded.as_ref().ok()
+    }
+
+    /// The bytes that lie there.
+    pub fn bytes(&self) -> &[u8] {
+        self.sheet.expected()
     }
 
     /// Makes a call, one in four through the wrapper, and compares its answer and all lent memory.
@@ -79,13 +100,17 @@ impl Bench {
 
     /// The same, bare or through the wrapper.
     pub fn compare_by(&mut self, call: Call, wrapped: bool) -> Outcome {
-        let outcome = call.outcome(&self.decoded);
+        let outcome = call.outcome_beside(&self.decoded, &self.second_decoded);
         self.sheet.allow_writing(call.writes_sheet());
         self.lend_places(&call);
         let returned = self.make(&call, wrapped);
         self.expect(&call, &outcome);
-        if let (Call::Read { .. }, false) = (call, wrapped) {
-            self.tally.count_kept(self.values.expected());
+        match call {
+            Call::Read { .. } if !wrapped => self.tally.count_kept(self.values.expected()),
+            Call::Pool { .. } if self.decoded.is_ok() => {
+                self.tally.count_second(&self.second_decoded);
+            }
+            _ => {}
         }
         self.judge(&call, &outcome, returned, wrapped);
         if let Written::Nodes { .. } = outcome.written {
@@ -99,10 +124,11 @@ impl Bench {
         let turn = self.turns.next();
         match *call {
             Call::Read { .. } => {
-                self.values.lend(size_of::<[f64; 3]>(), Place::in_turn(turn, 8), turn);
                 let held = patterns::drawn(turn).map(u64::to_le_bytes);
-                self.values.expect(0, held.as_flattened());
-                self.values.restore();
+                self.values.lend_holding(held.as_flattened(), 8, turn);
+            }
+            Call::Pool { target } if !is_far(call) => {
+                self.target.lend_holding(&self.turns.bytes(target), 1, turn);
             }
             Call::Bends { places, .. } => {
                 if is_far(call) {
@@ -125,6 +151,7 @@ impl Bench {
         match &outcome.written {
             Written::Nothing => {}
             Written::Nodes { offset, bytes } => self.sheet.expect(*offset, bytes),
+            Written::Target(bytes) => self.target.expect(0, bytes),
             Written::Values(values) => {
                 let bytes: Vec<u8> =
                     values.iter().flat_map(|value| value.to_bits().to_le_bytes()).collect();
@@ -146,6 +173,10 @@ impl Bench {
     fn lent_to(&self, call: &Call) -> Vec<(&'static str, &Lent)> {
         let mut lent = vec![("sheet", &self.sheet)];
         match call {
+            Call::Pool { .. } => {
+                lent.push(("second sheet", &self.second));
+                lent.push(("target", if is_far(call) { &self.far } else { &self.target }));
+            }
             Call::Read { .. } => lent.push(("values", &self.values)),
             Call::Bends { .. } => {
                 lent.push(("bends", if is_far(call) { &self.far } else { &self.bends }));
@@ -170,8 +201,8 @@ impl Bench {
             let account = self.account(call, outcome, returned);
             println!("difference {number}: {call:?} ({face})\n{account}");
         }
-        let Bench { values, row, bends, pieces, far, .. } = self;
-        for lent in [values, row, bends, pieces, far] {
+        let Bench { target, values, row, bends, pieces, far, .. } = self;
+        for lent in [target, values, row, bends, pieces, far] {
             lent.restore();
         }
         if !self.sheet.is_as_expected() {
@@ -184,7 +215,7 @@ impl Bench {
     fn account(&self, call: &Call, outcome: &Outcome, returned: usize) -> String {
         let lent = self.lent_to(call).into_iter();
         let memory: String = lent.filter_map(|(name, lent)| lent.difference(name)).collect();
-        let (sheet, held) = (self.sheet_text(), self.held_text(call));
+        let (sheet, held) = (self.sheets_text(call), self.held_text(call));
         let (expected, written) = (outcome.returned, written_text(&outcome.written));
         let returned = wrapped::returned_text(returned);
         format!(
@@ -196,21 +227,24 @@ impl Bench {
     fn make(&mut self, call: &Call, wrapped: bool) -> usize {
         let by_name = self.turns.once_in(2);
         let far = self.far.pointer();
-        let (row, bends) = match (is_far(call), wrapped) {
-            (false, _) => (self.row.pointer(), self.bends.pointer()),
-            (true, false) => (self.untouchable_row, far),
+        let (row, target, bends) = match (is_far(call), wrapped) {
+            (false, _) => (self.row.pointer(), self.target.pointer(), self.bends.pointer()),
+            (true, false) => (self.untouchable, self.untouchable, far),
             // A slice of Rust's must be of memory that may be touched, though no one does.
-            (true, true) => (far, far),
+            (true, true) => (far, far, far),
         };
         let places = Places {
             sheet: self.sheet.pointer(),
             len: self.sheet.len(),
+            second: self.second.pointer(),
+            second_len: self.second.len(),
+            target,
             values: self.values.pointer().cast(),
             row: row.cast(),
             bends: bends.cast(),
             pieces: self.pieces.pointer().cast(),
         };
-        // SAFETY: all is lent in the lengths that are passed, though one row may not be touched.
+        // SAFETY: all is lent in the lengths that are passed, though far memory may not be touched.
         // The sheet may be written by a call that is there to write it.
         unsafe {
             if wrapped {
@@ -221,7 +255,7 @@ impl Bench {
         }
     }
 
-    /// What the values, the bends or a short row hold after the call.
+    /// What the values, the bends, a short row or a short target hold after the call.
     fn held_text(&self, call: &Call) -> String {
         match call {
             Call::Read { .. } => {
@@ -236,6 +270,9 @@ impl Bench {
                 let bends = bends.collect::<Vec<i64>>();
                 format!(", count of pieces holds {pieces}, bends hold {bends:?}")
             }
+            Call::Pool { target } if *target <= SHORT => {
+                format!(", target holds {}", digits(self.target.bytes()))
+            }
             Call::FillRun { count, .. } if *count <= SHORT => {
                 let places = self.row.bytes().chunks_exact(4);
                 let levels = places.map(|place| i32::from_le_bytes(place.try_into().unwrap()));
@@ -245,20 +282,30 @@ impl Bench {
         }
     }
 
-    fn sheet_text(&self) -> String {
-        let bytes = self.sheet.expected();
-        if bytes.len() > SHORT {
-            return format!("{} ({} bytes)", self.name, bytes.len());
+    /// The sheet, and of a pool the second one.
+    fn sheets_text(&self, call: &Call) -> String {
+        let sheet = format!("{} {}", self.name, bytes_text(self.sheet.expected()));
+        match call {
+            Call::Pool { .. } => {
+                format!("{sheet}\n  second: {}", bytes_text(self.second.expected()))
+            }
+            _ => sheet,
         }
-        let hex: String = bytes.iter().map(|byte| format!("{byte:02x}")).collect();
-        format!("{} {hex}", self.name)
     }
 }
 
-/// Whether so many places are lent that the memory for it is another: a row that is never filled, or
-/// bends that lie at its start.
+fn bytes_text(bytes: &[u8]) -> String {
+    if bytes.len() > SHORT {
+        return format!("({} bytes)", bytes.len());
+    }
+    digits(bytes)
+}
+
+/// Whether so many places are lent that the memory for it is another: a row or a target that is
+/// never filled, or bends that lie at its start.
 fn is_far(call: &Call) -> bool {
     match *call {
+        Call::Pool { target } => target > LONGEST_SHEET,
         Call::Bends { places, .. } => places > MOST_PLACES,
         Call::FillRun { count, .. } => count > LONGEST_RUN,
         _ => false,
@@ -271,6 +318,7 @@ fn written_text(written: &Written) -> String {
         Written::Nothing => String::from("nothing"),
         Written::Levels(levels) if levels.len() > SHORT => format!("{} levels", levels.len()),
         Written::Nodes { bytes, .. } if bytes.len() > SHORT => format!("{} bytes", bytes.len()),
+        Written::Target(bytes) => bytes_text(bytes),
         _ => format!("{written:?}"),
     }
 }

@@ -169,20 +169,25 @@ fn combinations(base: &Draft) -> Vec<Boundary> {
     for set in 1u32..64 {
         let holds = |condition: u32| set & (1 << (condition - 1)) != 0;
         let mut bytes = base.bytes();
-        let last = bytes.len() - 1;
-        for condition in (1..=6).filter(|&condition| holds(condition)) {
-            match condition {
-                1 => bytes[0] = b'l',
-                2 => bytes[3] = 2,
-                3 => bytes[7] = 1,
-                4 => bytes.push(0),
-                5 => bytes[HEADER] = 7,
-                _ => bytes[last] = 0x70,
-            }
+        for condition in (1..=6).rev().filter(|&condition| holds(condition)) {
+            make_hold(&mut bytes, condition);
         }
         let refusal = set.trailing_zeros() + 1;
         let conditions: Vec<u32> = (1..=6).filter(|&condition| holds(condition)).collect();
         found.push(boundary(format!("conditions {conditions:?}"), bytes, refusal));
     }
     found
+}
+
+/// Changes an accepted sheet so that a condition of 1 to 6 holds.
+pub fn make_hold(bytes: &mut Vec<u8>, condition: u32) {
+    let last = bytes.len() - 1;
+    match condition {
+        1 => bytes[0] = b'l',
+        2 => bytes[3] = 2,
+        3 => bytes[7] = 1,
+        4 => bytes.push(0),
+        5 => bytes[HEADER + 1] = 0xff,
+        _ => bytes[last] = 0x70,
+    }
 }

@@ -1,11 +1,12 @@
-//! The eight calls, and what each must give and write by the independent implementation.
+//! The nine calls, and what each must give and write by the independent implementation.
 
 use crate::bends::{self, LEAST_PLACES};
 use crate::fraction::Fraction;
+use crate::pool;
 use crate::sheet::{in_bounds, Sheet, NODE_BYTES};
 use crate::slopes::{self, MOST_STIFFNESS};
 
-/// A call on a sheet.
+/// A call on a sheet; a pool is with the second sheet that lies beside it, into a target so long.
 #[derive(Clone, Copy, Debug)]
 pub enum Call {
     Check,
@@ -13,18 +14,20 @@ pub enum Call {
     NodeOffset { column: u32, row: u32 },
     SetNode { column: u32, row: u32, numbers: [i32; 3] },
     FillSlopes { stiffness: u32 },
+    Pool { target: usize },
     Read { x: u32, y: u32, kind: u32 },
     Bends { x: u32, y: u32, places: usize },
     FillRun { x: u32, y: u32, count: usize },
 }
 
 /// The names of the calls, in the order of [`Call::index`].
-pub const NAMES: [&str; 8] = [
+pub const NAMES: [&str; 9] = [
     "check",
     "node_refusal",
     "node_offset",
     "set_node",
     "fill_slopes",
+    "pool",
     "read",
     "bends",
     "fill_run",
@@ -39,6 +42,8 @@ pub enum Written {
         offset: usize,
         bytes: Vec<u8>,
     },
+    /// The whole target of a pool.
+    Target(Vec<u8>),
     Values(Vec<f64>),
     /// Three numbers for each piece; their count is written besides.
     Bends(Vec<i64>),
@@ -65,9 +70,10 @@ impl Call {
             Call::NodeOffset { .. } => 2,
             Call::SetNode { .. } => 3,
             Call::FillSlopes { .. } => 4,
-            Call::Read { .. } => 5,
-            Call::Bends { .. } => 6,
-            Call::FillRun { .. } => 7,
+            Call::Pool { .. } => 5,
+            Call::Read { .. } => 6,
+            Call::Bends { .. } => 7,
+            Call::FillRun { .. } => 8,
         }
     }
 
@@ -78,7 +84,17 @@ impl Call {
 
     /// What the call must come to on a sheet, or on bytes that are refused.
     pub fn outcome(&self, sheet: &Result<Sheet, u32>) -> Outcome {
-        match sheet.as_ref().map_err(|&refusal| refusal).and_then(|sheet| self.accepted(sheet)) {
+        self.outcome_beside(sheet, &Err(1))
+    }
+
+    /// The same where a second sheet lies beside it, for a pool.
+    pub fn outcome_beside(
+        &self,
+        sheet: &Result<Sheet, u32>,
+        second: &Result<Sheet, u32>,
+    ) -> Outcome {
+        let sheet = sheet.as_ref().map_err(|&refusal| refusal);
+        match sheet.and_then(|sheet| self.accepted(sheet, second)) {
             Ok(outcome) => outcome,
             // Only the offset keeps its refusal to itself.
             Err(refusal) => Outcome {
@@ -95,7 +111,7 @@ impl Call {
     }
 
     /// What the call comes to if none of its own conditions refuses it.
-    fn accepted(&self, sheet: &Sheet) -> Result<Outcome, u32> {
+    fn accepted(&self, sheet: &Sheet, second: &Result<Sheet, u32>) -> Result<Outcome, u32> {
         match *self {
             Call::Check => Ok(Outcome::writes(Written::Nothing)),
             Call::NodeRefusal { column, row } => {
@@ -108,6 +124,10 @@ impl Call {
             }
             Call::SetNode { column, row, numbers } => set_node(sheet, column, row, numbers),
             Call::FillSlopes { stiffness } => fill_slopes(sheet, stiffness),
+            Call::Pool { target } => {
+                let pooled = pool::pooled(sheet, second, target)?;
+                Ok(Outcome::writes(Written::Target(pooled)))
+            }
             Call::Read { x, y, kind } => read(sheet, x, y, kind),
             Call::Bends { x, y, places } => give_bends(sheet, x, y, places),
             Call::FillRun { x, y, count } => fill_run(sheet, x, y, count),

@@ -18,6 +18,13 @@ impl Draft {
         Draft { x_lines: x_lines.to_vec(), y_lines: y_lines.to_vec(), nodes }
     }
 
+    /// The same on the lines of a sheet.
+    pub fn on(mesh: &Sheet) -> Draft {
+        let [x_lines, y_lines] =
+            [&mesh.x_lines, &mesh.y_lines].map(|lines| lines.iter().map(|&line| line as u16));
+        Draft::flat(&x_lines.collect::<Vec<u16>>(), &y_lines.collect::<Vec<u16>>())
+    }
+
     /// The sheet it is if it has no fault.
     pub fn sheet(&self) -> Sheet {
         Sheet::decode(&self.bytes()).expect("a draft without fault")

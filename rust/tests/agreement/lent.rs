@@ -91,6 +91,14 @@ impl Lent {
         self.restore();
     }
 
+    /// Lends so many bytes as these, which they hold, at a multiple of `step`.
+    pub fn lend_holding(&mut self, bytes: &[u8], step: usize, turn: u64) {
+        self.allow_writing(true);
+        self.lend(bytes.len(), Place::in_turn(turn, step), turn);
+        self.expect(0, bytes);
+        self.restore();
+    }
+
     /// The lent part, for a call.
     pub fn pointer(&self) -> *mut u8 {
         self.base.wrapping_add(self.window + self.guard)

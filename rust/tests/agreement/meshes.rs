@@ -5,7 +5,8 @@ use crate::random::Random;
 
 const MOST_GAP: i64 = 64;
 const LAST_LINE: i64 = 4096;
-const MOST: i64 = 4095;
+/// The greatest number of a node.
+pub const MOST: i64 = 4095;
 
 /// How far lines lie apart.
 #[derive(Clone, Copy, Debug)]
@@ -70,6 +71,12 @@ pub fn large(random: &mut Random) -> Draft {
     let numbers = random.pick(&ALL_NUMBERS);
     let turned = random.once_in(2);
     sheet(random, if turned { [counts[1], counts[0]] } else { counts }, gaps, numbers)
+}
+
+/// A sheet on the lines of another, with numbers of its own.
+pub fn renumbered(random: &mut Random, draft: &Draft, numbers: Numbers) -> Draft {
+    let nodes = draft.nodes.iter().map(|_| node(random, numbers)).collect();
+    Draft { nodes, ..draft.clone() }
 }
 
 /// The extremes: the fewest and most lines, the least and most gaps, the numbers' ends.

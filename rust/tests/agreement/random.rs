@@ -35,6 +35,12 @@ impl Random {
         self.index(times) == 0
     }
 
+    /// As many bytes, eight of a draw.
+    pub fn bytes(&mut self, count: usize) -> Vec<u8> {
+        let draws = (0..count.div_ceil(8)).flat_map(|_| self.next().to_le_bytes());
+        draws.take(count).collect()
+    }
+
     pub fn byte(&mut self) -> u8 {
         self.next().to_le_bytes()[0]
     }

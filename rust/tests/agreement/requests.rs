@@ -6,14 +6,17 @@ use std::path::PathBuf;
 use crate::call::{Call, Outcome, Written};
 
 /// The files, and how many cases each has.
-const FILES: [(&str, usize); 2] = [("101-slopes.txt", 140), ("102-bends.txt", 140)];
+const FILES: [(&str, usize); 3] =
+    [("101-slopes.txt", 140), ("102-bends.txt", 140), ("104-pool.txt", 140)];
 /// The last request that has landed: cases that hold until it, or until an earlier one, do not.
-const LANDED: u32 = 102;
+const LANDED: u32 = 104;
 
 /// A call on a sheet, and what it comes to.
 pub struct Case {
     pub name: String,
     pub sheet: Vec<u8>,
+    /// The second sheet of a pool; else no bytes.
+    pub second: Vec<u8>,
     pub call: Call,
     /// The number that it returns and what it has written, as they stand in the line.
     pub answer: String,
@@ -44,17 +47,21 @@ fn case(name: String, line: &str) -> Option<Case> {
     }
     let (called, answer) = line.split_once(" -> ").expect("an arrow");
     let words: Vec<&str> = called.split(' ').collect();
-    let (sheet, call) = match words[..] {
+    let (sheet, second, call) = match words[..] {
         ["fill_slopes", sheet, stiffness] => {
-            (sheet, Call::FillSlopes { stiffness: stiffness.parse().expect("a stiffness") })
+            (sheet, "-", Call::FillSlopes { stiffness: stiffness.parse().expect("a stiffness") })
         }
         ["bends", sheet, x, y, places] => {
             let [x, y] = [x, y].map(|word| word.parse().expect("a pixel"));
-            (sheet, Call::Bends { x, y, places: places.parse().expect("places") })
+            (sheet, "-", Call::Bends { x, y, places: places.parse().expect("places") })
+        }
+        ["pool", first, second, target] => {
+            (first, second, Call::Pool { target: target.parse().expect("a length") })
         }
         _ => panic!("{name}: not a call"),
     };
-    Some(Case { name, sheet: bytes(sheet), call, answer: answer.to_string() })
+    let [sheet, second] = [sheet, second].map(bytes);
+    Some(Case { name, sheet, second, call, answer: answer.to_string() })
 }
 
 /// What a call comes to on this sheet, as a line has it behind the arrow.
@@ -65,9 +72,9 @@ pub fn answer(sheet: &[u8], outcome: &Outcome) -> String {
         Written::Nodes { offset, bytes } => {
             let mut left = sheet.to_vec();
             left[*offset..*offset + bytes.len()].copy_from_slice(bytes);
-            let digits: String = left.iter().map(|byte| format!("{byte:02x}")).collect();
-            format!("{number} {digits}")
+            format!("{number} {}", digits(&left))
         }
+        Written::Target(bytes) => format!("{number} {}", digits(bytes)),
         Written::Bends(bends) => {
             let numbers: String = bends.iter().map(|bend| format!(" {bend}")).collect();
             format!("{number} {}{numbers}", bends.len() / 3)
@@ -76,7 +83,12 @@ pub fn answer(sheet: &[u8], outcome: &Outcome) -> String {
     }
 }
 
-/// Bytes in hexadecimal, `-` for none.
+/// Bytes in hexadecimal.
+pub fn digits(bytes: &[u8]) -> String {
+    bytes.iter().map(|byte| format!("{byte:02x}")).collect()
+}
+
+/// Bytes from hexadecimal digits, `-` for none.
 fn bytes(digits: &str) -> Vec<u8> {
     if digits == "-" {
         return Vec::new();

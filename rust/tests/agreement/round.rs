@@ -10,16 +10,20 @@ use crate::draft::Draft;
 use crate::exercise::{self, Depth};
 use crate::filling;
 use crate::meshes;
+use crate::pooling;
 use crate::random::Random;
 use crate::requests::Case;
 use crate::sheet::Sheet;
 use crate::steep;
+use crate::sums;
+use crate::three;
 use crate::vectors::Vector;
 use crate::worst;
 
 const SMALL_SHEETS: usize = 2_500;
 const LARGE_SHEETS: usize = 200;
 const DAMAGED_SHEETS: usize = 1_500;
+const TRIPLES: usize = 300;
 
 /// Every pixel of any cell.
 const WHOLE: Depth = Depth { pixels: 65 * 65, runs: 20, nodes: 12 };
@@ -46,6 +50,7 @@ pub fn vectors(bench: &mut Bench, vectors: &[Vector]) {
 pub fn requests(bench: &mut Bench, cases: &[Case]) {
     for (case, wrapped) in cases.iter().flat_map(|case| [(case, false), (case, true)]) {
         bench.lay(&case.name, &case.sheet);
+        bench.lay_second(&case.second);
         bench.compare_by(case.call, wrapped);
     }
 }
@@ -82,6 +87,16 @@ pub fn run(bench: &mut Bench, seed: u64) {
         bench.lay(&format!("seed {seed}, damaged sheet {k}: {damage}"), &bytes);
         everything(bench, random, &draft.sheet(), DAMAGED);
     }
+    pools(bench, random, seed);
+}
+
+/// Pools of sheets that are made for it.
+fn pools(bench: &mut Bench, random: &mut Random, seed: u64) {
+    sums::run(bench, random, &format!("seed {seed}, a pair with a sum at an end"));
+    pooling::same_line_bytes(bench, &format!("seed {seed}, same line bytes"));
+    for k in 0..TRIPLES {
+        three::run(bench, random, &format!("seed {seed}, three sheets {k}"));
+    }
 }
 
 fn boundary_sheets(bench: &mut Bench, random: &mut Random, seed: u64) {
@@ -103,5 +118,7 @@ fn everything(bench: &mut Bench, random: &mut Random, mesh: &Sheet, depth: Depth
     exercise::run(bench, random, depth);
     battery::run(bench, mesh);
     creases::run(bench, random, mesh);
+    pooling::run(bench, random, mesh);
+    // Last, because it leaves flat slopes.
     filling::run(bench, random);
 }

@@ -17,7 +17,7 @@ pub struct Sheet {
     pub x_lines: Vec<u32>,
     pub y_lines: Vec<u32>,
     /// Height, x-slope and y-slope of each node, row by row.
-    nodes: Vec<[i16; 3]>,
+    pub nodes: Vec<[i16; 3]>,
     latest: RefCell<Option<Latest>>,
 }
 
@@ -35,7 +35,7 @@ impl Sheet {
         if !fits(columns) || !fits(rows) || bytes[7] != 0 {
             return Err(3);
         }
-        if bytes.len() != HEADER + 2 * columns + 2 * rows + NODE_BYTES * columns * rows {
+        if bytes.len() != length(columns, rows) {
             return Err(4);
         }
         let words =
@@ -53,6 +53,11 @@ impl Sheet {
             return Err(6);
         }
         Ok(Sheet { x_lines, y_lines, nodes, latest: RefCell::new(None) })
+    }
+
+    /// How many bytes it has.
+    pub fn length(&self) -> usize {
+        length(self.x_lines.len(), self.y_lines.len())
     }
 
     /// Where a node's six bytes start.
@@ -146,7 +151,14 @@ fn line_before(lines: &[u32], position: u32) -> usize {
     (0..last_cell).find(|&line| position < lines[line + 1]).unwrap_or(last_cell)
 }
 
-fn is_mesh(lines: &[u32]) -> bool {
+/// The length that so many lines call for.
+fn length(columns: usize, rows: usize) -> usize {
+    HEADER + 2 * columns + 2 * rows + NODE_BYTES * columns * rows
+}
+
+/// Whether a sheet may have these lines, if they are not too many or too few.
+pub fn is_mesh<T: Copy + Into<u32>>(lines: &[T]) -> bool {
+    let lines: Vec<u32> = lines.iter().map(|&line| line.into()).collect();
     let rises = lines.windows(2).all(|pair| pair[0] < pair[1] && pair[1] - pair[0] <= 64);
     rises && lines.iter().all(|&line| line <= 4096)
 }

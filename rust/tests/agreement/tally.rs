@@ -11,22 +11,31 @@ const LEAST_CALLS: u64 = 5_000_000;
 /// Differences printed in full; more are only counted.
 const SHOWN: u64 = 5;
 /// Refusals are numbered from 1 to this.
-const REFUSALS: usize = 14;
+const REFUSALS: usize = 17;
+/// Those of a sheet are numbered from 1 to this.
+const SHEET_REFUSALS: usize = 6;
 /// What is rounded, apart: readings and runs, filled slopes, bends from each piece.
 const ROUNDED: [&str; 3] = ["readings and runs", "filled slopes", "bends from each piece"];
 /// How many pieces can touch a pixel.
 const TOUCHING: [usize; 4] = [1, 2, 4, 8];
+/// The ends of what a sum may be.
+const ENDS: [i16; 2] = [-4095, 4095];
 
 #[derive(Default)]
 pub struct Tally {
     /// Sheets by refusal, 0 where accepted.
-    sheets: [u64; 7],
+    sheets: [u64; SHEET_REFUSALS + 1],
+    /// Second sheets of pools whose first is accepted, likewise.
+    seconds: [u64; SHEET_REFUSALS + 1],
     /// Calls by name and refusal, 0 where accepted.
     calls: [[u64; REFUSALS + 1]; NAMES.len()],
     wrapped: u64,
     values: u64,
     levels: u64,
     slopes: u64,
+    sums: u64,
+    /// Sums at each end of the range.
+    ends: [u64; 2],
     /// Lists of bends by how many pieces they have.
     lists: [u64; TOUCHING.len()],
     /// Ties by what is rounded, negative ones and positive ones.
@@ -38,8 +47,11 @@ pub struct Tally {
 
 impl Tally {
     pub fn count_sheet(&mut self, sheet: &Result<Sheet, u32>) {
-        let refusal = sheet.as_ref().err().map_or(0, |&refusal| refusal as usize);
-        self.sheets[refusal] += 1;
+        self.sheets[refusal(sheet)] += 1;
+    }
+
+    pub fn count_second(&mut self, sheet: &Result<Sheet, u32>) {
+        self.seconds[refusal(sheet)] += 1;
     }
 
     pub fn count_call(&mut self, call: &Call, outcome: &Outcome, wrapped: bool) {
@@ -54,6 +66,7 @@ impl Tally {
         match &outcome.written {
             Written::Values(values) => self.values += values.len() as u64,
             Written::Levels(levels) => self.levels += levels.len() as u64,
+            Written::Target(bytes) => self.count_sums(bytes),
             Written::Bends(bends) => {
                 let count = TOUCHING.iter().position(|count| 3 * count == bends.len());
                 self.lists[count.expect("one, two, four or eight pieces touch")] += 1;
@@ -65,6 +78,16 @@ impl Tally {
         }
         for (all, new) in self.ties[rounded].iter_mut().zip(outcome.ties) {
             *all += new;
+        }
+    }
+
+    /// Counts the numbers of a pool.
+    fn count_sums(&mut self, bytes: &[u8]) {
+        let pool = Sheet::decode(bytes).expect("a pool is a sheet");
+        let sums = pool.nodes.as_flattened();
+        self.sums += sums.len() as u64;
+        for (count, end) in self.ends.iter_mut().zip(ENDS) {
+            *count += sums.iter().filter(|&&sum| sum == end).count() as u64;
         }
     }
 
@@ -102,6 +125,9 @@ impl Tally {
         for refusal in (1..=REFUSALS).filter(|&refusal| self.refused(refusal) == 0) {
             complaints.push(format!("refusal {refusal} was never met"));
         }
+        if self.seconds.contains(&0) || self.ends.contains(&0) {
+            complaints.push("no second sheet, or sum, of some sort was ever met".to_string());
+        }
         if self.wrapped == 0 || self.levels == 0 || self.slopes == 0 {
             complaints.push("wrapper, levels or filled slopes were never met".to_string());
         }
@@ -117,28 +143,20 @@ impl Tally {
         complaints
     }
 
-    /// The table of counts.
+    /// All counts.
     pub fn print(&self, seconds: f64) {
-        let refused: u64 = self.sheets[1..].iter().sum();
-        println!("sheets: {} accepted, {refused} refused", self.sheets[0]);
-        let by_number =
-            |counts: &[u64]| counts.iter().map(|n| format!(" {n:>8}")).collect::<String>();
-        let numbers: Vec<u64> = (0..=REFUSALS as u64).collect();
-        println!("{:<13}{:>9}{}", "by refusal", "all", by_number(&numbers));
-        println!("{:<13}{:>9}{}", "sheets", self.sheets[0] + refused, by_number(&self.sheets));
-        for (name, counts) in NAMES.iter().zip(&self.calls) {
-            println!("{name:<13}{:>9}{}", counts.iter().sum::<u64>(), by_number(counts));
-        }
-        let all: Vec<u64> = (0..=REFUSALS).map(|refusal| self.refused(refusal)).collect();
-        println!("{:<13}{:>9}{}", "calls", self.call_count(), by_number(&all));
-        println!("calls made through the safe wrapper: {}", self.wrapped);
+        self.print_table();
+        let (calls, wrapped) = (self.call_count(), self.wrapped);
+        println!("calls: {calls}, of them through the safe wrapper: {wrapped}");
         let pieces: u64 = self.lists.iter().zip(TOUCHING).map(|(n, count)| n * count as u64).sum();
         let lists: u64 = self.lists.iter().sum();
         // A list has three numbers for each piece, and their count.
         let bends = 3 * pieces + lists;
-        let written = self.values + self.levels + self.slopes + bends;
-        println!("single numbers compared: {}", self.call_count() + written);
+        let written = self.values + self.levels + self.slopes + self.sums + bends;
+        println!("single numbers compared: {}", calls + written);
         println!("  of them levels in runs: {}, slopes filled: {}", self.levels, self.slopes);
+        let [lowest, highest] = self.ends;
+        println!("  sums in pools: {}, of them -4095: {lowest}, 4095: {highest}", self.sums);
         let [one, two, four, eight] = self.lists;
         println!("lists of bends: {lists}, of {pieces} pieces in all");
         println!("  from one piece: {one}, two: {two}, four: {four}, eight: {eight}");
@@ -151,7 +169,34 @@ impl Tally {
         println!("seconds: {seconds:.1}");
     }
 
+    /// Sheets and calls by refusal, 0 where accepted: those that are for every call in columns, a
+    /// call's own behind them.
+    fn print_table(&self) {
+        let numbers: String = (0..=SHEET_REFUSALS).map(|number| format!(" {number:>8}")).collect();
+        println!("{:<13}{:>9}{numbers}", "by refusal", "all");
+        println!("{}", row("sheets", &self.sheets));
+        println!("{}", row("second sheets", &self.seconds));
+        for (name, counts) in NAMES.iter().zip(&self.calls) {
+            println!("{}", row(name, counts));
+        }
+    }
+
     fn refused(&self, refusal: usize) -> u64 {
         self.calls.iter().map(|counts| counts[refusal]).sum()
     }
+}
+
+/// A row of the table.
+fn row(name: &str, counts: &[u64]) -> String {
+    let all: u64 = counts.iter().sum();
+    let (columns, own) = counts.split_at(SHEET_REFUSALS + 1);
+    let columns: String = columns.iter().map(|count| format!(" {count:>8}")).collect();
+    let own = (SHEET_REFUSALS + 1..).zip(own).filter(|(_, &count)| count > 0);
+    let own: String = own.map(|(refusal, count)| format!("   {refusal}: {count}")).collect();
+    format!("{name:<13}{all:>9}{columns}{own}")
+}
+
+/// The number of a sheet's refusal, 0 where it is accepted.
+fn refusal(sheet: &Result<Sheet, u32>) -> usize {
+    sheet.as_ref().err().map_or(0, |&refusal| refusal as usize)
 }

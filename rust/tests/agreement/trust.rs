@@ -9,8 +9,9 @@ use crate::call::{Call, Written};
 use crate::draft::Draft;
 use crate::element::{Cell, Corner, Exact, Piece, Weights};
 use crate::fraction::Fraction;
-use crate::meshes;
+use crate::meshes::{self, Numbers};
 use crate::pixels;
+use crate::pool;
 use crate::random::Random;
 use crate::requests::{self, Case};
 use crate::sheet::Sheet;
@@ -28,8 +29,11 @@ pub fn check(random: &mut Random, vectors: &[Vector], cases: &[Case]) {
     worked_examples();
     filled_example();
     creased_examples();
+    pooled_example();
     for _ in 0..200 {
-        reads_beside_creases(&meshes::any(random).sheet());
+        let draft = meshes::any(random);
+        reads_beside_creases(&draft.sheet());
+        pools_add_up(random, &draft);
     }
     for boundary in boundaries::all(random) {
         let refusal = Sheet::decode(&boundary.bytes).err().unwrap_or(0);
@@ -39,7 +43,8 @@ pub fn check(random: &mut Random, vectors: &[Vector], cases: &[Case]) {
         agrees_with(vector);
     }
     for case in cases {
-        let outcome = case.call.outcome(&Sheet::decode(&case.sheet));
+        let [sheet, second] = [&case.sheet, &case.second].map(|bytes| Sheet::decode(bytes));
+        let outcome = case.call.outcome_beside(&sheet, &second);
         assert!(requests::answer(&case.sheet, &outcome) == case.answer, "{}", case.name);
     }
 }
@@ -156,6 +161,36 @@ fn creased_examples() {
     let top = [[6144, 4096, 0], [8192, 0, 8192], [-4096, 0, -16384], [-3072, 4096, 0]];
     let bottom = [[8192, 0, 2048], [6144, -2048, 0], [-4096, 0, -4096], [-3072, -2048, 0]];
     assert_eq!(bends_at(&draft.sheet(), 2, 1), [top, bottom].concat());
+}
+
+/// The pool that the format's description works out.
+fn pooled_example() {
+    let on_lines =
+        |nodes: [[i16; 3]; 4]| Draft { nodes: nodes.to_vec(), ..Draft::flat(&[0, 2], &[0, 3]) };
+    let screen = on_lines([[200, -1, 0], [-300, 64, -128], [4000, 12, -7], [0, -4000, 5]]);
+    let mut lens = on_lines([[100, 1, -64], [50, -32, 128], [95, -12, -9], [0, -95, 250]]);
+    let pool = on_lines([[300, 0, -64], [-250, 32, 0], [4095, 0, -16], [0, -4095, 255]]);
+    let call = Call::Pool { target: 40 };
+    let outcome = call.outcome_beside(&Ok(screen.sheet()), &Ok(lens.sheet()));
+    assert_eq!(outcome.written, Written::Target(pool.bytes()));
+    lens.nodes[2][0] = 96;
+    assert_eq!(call.outcome_beside(&Ok(screen.sheet()), &Ok(lens.sheet())).refusal, 11);
+}
+
+/// At pixels of every sort the exact surface of a pool is the sum of the two, in all its readings.
+fn pools_add_up(random: &mut Random, draft: &Draft) {
+    let [first, second] =
+        [0, 1].map(|_| meshes::renumbered(random, draft, Numbers::UpTo(2047)).sheet());
+    let bytes = pool::pooled(&first, &Ok(second.clone()), first.length()).expect("a pool");
+    let pool = Sheet::decode(&bytes).expect("a pool is a sheet");
+    for (x, y) in pixels::of_every_sort(&pool, random, 24) {
+        let [first, second, pool] = [&first, &second, &pool].map(|sheet| sheet.exact(x, y).all());
+        for ((first, second), pool) in first.iter().zip(second).zip(pool) {
+            // All three have the cell's denominator.
+            let sum = Fraction::new(first.numerator + second.numerator, first.denominator);
+            assert!(first.denominator == second.denominator && sum == pool, "the sum at {x}, {y}");
+        }
+    }
 }
 
 /// At every pixel of a small sheet the bend reading is the entry for the right or lower cell and its

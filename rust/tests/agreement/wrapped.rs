@@ -15,19 +15,16 @@ const OTHER_NUMBERS: usize = usize::MAX;
 ///
 /// # Safety
 ///
-/// As for the bare call; besides, no pointer is null, and rows and bends may be touched in their
-/// whole length.
+/// As for the bare call; besides, no pointer is null, and rows, bends and targets may be touched in
+/// their whole length.
 pub unsafe fn make(call: &Call, places: &Places, by_name: bool) -> usize {
-    let Places { sheet: start, len, values, row: levels, bends, pieces } = *places;
+    let Places { sheet: start, len, values, row: levels, bends, pieces, .. } = *places;
     // SAFETY: the caller vouches for what is lent, here and below, and no one else holds it.
     let sheet = unsafe { slice::from_raw_parts(start, len) };
     match *call {
         Call::Check => number(light_sheet::check(sheet)),
         Call::NodeRefusal { column, row } => look_up(sheet, column, row),
-        Call::NodeOffset { column, row } => match light_sheet::node(sheet, column, row) {
-            Ok(bytes) => bytes.as_ptr() as usize - start as usize,
-            Err(_) => 0,
-        },
+        Call::NodeOffset { column, row } => find(sheet, column, row),
         Call::SetNode { column, row, numbers: [height, x_slope, y_slope] } => {
             let node = Node { height, x_slope, y_slope };
             // SAFETY: this sheet may be written, and the slice made above is used no more.
@@ -39,6 +36,8 @@ pub unsafe fn make(call: &Call, places: &Places, by_name: bool) -> usize {
             let sheet = unsafe { slice::from_raw_parts_mut(start, len) };
             number(light_sheet::fill_slopes(sheet, stiffness))
         }
+        // SAFETY: the second sheet and the target are lent, and the target may be touched.
+        Call::Pool { target } => unsafe { pool(sheet, places, target) },
         Call::Read { x, y, kind } => {
             let reading = read(sheet, x, y, kind, by_name);
             // SAFETY: there are three places.
@@ -46,17 +45,36 @@ pub unsafe fn make(call: &Call, places: &Places, by_name: bool) -> usize {
             number(reading.map(drop))
         }
         Call::Bends { x, y, places: count } => {
-            // SAFETY: there are as many places, and they may be touched.
-            let list = unsafe { slice::from_raw_parts_mut(bends, count) };
-            let given = light_sheet::bends(sheet, x, y, list);
-            // SAFETY: there is one place.
-            number(given.map(|count| unsafe { pieces.write(count as u32) }))
+            // SAFETY: there are as many places, and they may be touched; and one for the count.
+            let (list, pieces) = unsafe { (slice::from_raw_parts_mut(bends, count), &mut *pieces) };
+            number(light_sheet::bends(sheet, x, y, list).map(|count| *pieces = count as u32))
         }
         Call::FillRun { x, y, count } => {
             // SAFETY: there are as many places, and they may be touched.
             let levels = unsafe { slice::from_raw_parts_mut(levels, count) };
             number(light_sheet::fill_run(sheet, x, y, levels))
         }
+    }
+}
+
+/// Pools the sheet with the second one, into a target of so many bytes.
+///
+/// # Safety
+///
+/// As for [`make`].
+unsafe fn pool(sheet: &[u8], places: &Places, count: usize) -> usize {
+    let Places { second, second_len, target, .. } = *places;
+    // SAFETY: the caller vouches for both.
+    let second = unsafe { slice::from_raw_parts(second, second_len) };
+    let target = unsafe { slice::from_raw_parts_mut(target, count) };
+    number(light_sheet::pool(sheet, second, target))
+}
+
+/// Where a node's bytes start, or 0.
+fn find(sheet: &[u8], column: u32, row: u32) -> usize {
+    match light_sheet::node(sheet, column, row) {
+        Ok(bytes) => bytes.as_ptr() as usize - sheet.as_ptr() as usize,
+        Err(_) => 0,
     }
 }
 

@@ -1,0 +1,4 @@
+pub mod Pieces
+pub mod Cubics
+pub mod Rounded
+pub mod Sums

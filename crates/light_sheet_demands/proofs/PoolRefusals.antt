@@ -1,0 +1,166 @@
+-- When pooling gives each of its numbers, by what holds of its input. Assumes nothing.
+use Prim.Native.Nat.{ℕ, _<_}
+use mathlib.Core.Path.{_≡_, refl, sym, _∙_, subst}
+use mathlib.Core.Logic.{_↔_, Iff·trans}
+use mathlib.Core.List.{List, [], _∷_, _++_}
+use mathlib.Core.Bool.{true, false}
+use native.Mathlib.Omega.{arith}
+use lib.IntN.{ℤ, _+ℤ_}
+use lib.ListN.{length}
+use Rattle.integers.specs.Within.{_within_}
+use Rattle.integers.proofs.Polynomial.{_⊕_}
+use Rattle.integers.proofs.Solve.{_≐_, solve}
+use Rattle.sheet_layout.specs.Format.{columns, rows, nodeAt}
+use Rattle.sheet_layout.specs.SameLines.{SameLines}
+use Rattle.sheet_layout.proofs.SameLines.{same-sym}
+use Rattle.sheet_calls.specs.Rules.{Rule, rule}
+use Rattle.sheet_calls.specs.Refusals.{Accepted}
+use Rattle.sheet_calls.specs.WellFormed.{InRange}
+use Rattle.sheet_calls.proofs.WellFormed.{accepted-laws}
+use Rattle.sheet_pool.specs.Pool.{added, pooledNode, pooled, secondRefused, otherLines, otherTarget, someSumOut, PoolInput}
+use Rattle.sheet_pool.proofs.Chain.{pool-held, pool-taken, pooled-is}
+use Rattle.sheet_pool.proofs.Laws.{pool-laws}
+use Rattle.light_sheet_demands.specs.Contracts.{Pool}
+use Rattle.light_sheet_demands.specs.Demands.{NoneHolds, ofSheet}
+use Rattle.light_sheet_demands.specs.Pooling.{SumsInRange}
+use Rattle.light_sheet_demands.proofs.Refusals.{pool-gives}
+use Rattle.light_sheet_demands.proofs.Numbers.{holds-not, lacks, first-of}
+
+-- ---- when it is taken
+
+sums-in-range : (a b : List ℕ) → ((j : ℕ) → j < rows a → (i : ℕ) → i < columns a → InRange (pooledNode a b i j)) ↔ SumsInRange a b
+unfolding pooledNode added
+sums-in-range a b = (
+  λ h. record {
+    heights = λ i j k l. h j l i k .storedHeight;
+    slopesX = λ i j k l. h j l i k .slopeX;
+    slopesY = λ i j k l. h j l i k .slopeY;
+  },
+  λ s j l i k. record { storedHeight = s .heights i j k l; slopeX = s .slopesX i j k l; slopeY = s .slopesY i j k l },
+)
+
+module _ {a b target p a′ b′ : List ℕ} {n : ℕ} (c : Pool a b target n p a′ b′) where
+  pub is-taken : (n ≡ 0) ↔ (Accepted a × Accepted b × SameLines a b × (length target ≡ length a) × SumsInRange a b)
+  is-taken = (
+    λ e. let h = pool-held a b (length target) (sym (c .answer) ∙ e) in
+        (h .pair .firstAccepted, h .pair .secondAccepted, h .pair .lines, h .size, sums-in-range a b .0 (λ j l i k. h .sums i j k l)),
+    λ h. let sums = sums-in-range a b .1 (h .4) in
+        c .answer ∙ pool-taken a b (length target) (record {
+          pair = record { firstAccepted = h .0; secondAccepted = h .1; lines = h .2 };
+          size = h .3;
+          sums = λ i j k l. sums j l i k;
+        }),
+  )
+
+  -- the pool is left then
+  pub left : n ≡ 0 → p ≡ pooled a b
+  left e = c .pool ∙ pooled-is a b target (sym (c .answer) ∙ e)
+
+pub eleven : (a b : List ℕ) → (someSumOut a b ≡ false) ↔ SumsInRange a b
+eleven a b = Iff·trans (pool-laws .eleven a b) (sums-in-range a b)
+
+-- ---- in the other order
+
+-- accepted sheets on the same lines are of one length
+pub same-length : {a b : List ℕ} → Accepted a → Accepted b → SameLines a b → length a ≡ length b
+same-length {a} {b} x y l = accepted-laws .sound a x .whole ∙ sym (rw (l .sameColumns, l .sameRows) at (accepted-laws .sound b y .whole))
+
+swapped : {a b : List ℕ} → SameLines a b → SumsInRange a b → SumsInRange b a
+swapped {a} {b} l s = record {
+  heights = λ i j h k. subst (λ z. z within 4095) (plus-comm (nodeAt a i j .storedHeight) (nodeAt b i j .storedHeight)) (s .heights i j (across h) (down k));
+  slopesX = λ i j h k. subst (λ z. z within 4095) (plus-comm (nodeAt a i j .slopeX) (nodeAt b i j .slopeX)) (s .slopesX i j (across h) (down k));
+  slopesY = λ i j h k. subst (λ z. z within 4095) (plus-comm (nodeAt a i j .slopeY) (nodeAt b i j .slopeY)) (s .slopesY i j (across h) (down k));
+}
+  where
+    plus-comm : (x y : ℤ) → x +ℤ y ≡ y +ℤ x
+    plus-comm = solve 2 (λ x y. x ⊕ y ≐ y ⊕ x) tt
+
+    across : {i : ℕ} → i < columns b → i < columns a
+    across h = rw (l .sameColumns) at h
+
+    down : {j : ℕ} → j < rows b → j < rows a
+    down h = rw (l .sameRows) at h
+
+pub other-way : {a b target target′ p q a′ b′ a″ b″ : List ℕ} {n m : ℕ} → length target ≡ length target′ →
+    Pool a b target n p a′ b′ → Pool b a target′ m q b″ a″ → n ≡ 0 → m ≡ 0
+other-way t c d e =
+    let (x, y, l, size, s) = is-taken c .0 e in
+    is-taken d .1 (y, x, same-sym l, sym t ∙ size ∙ same-length x y l, swapped l s)
+
+-- ---- each number
+
+module _ {a b target p a′ b′ : List ℕ} {n : ℕ} (c : Pool a b target n p a′ b′) where
+  abbrev u : PoolInput
+  u = record { first = a; second = b; size = length target }
+
+  -- where none of the first sheet's rules holds, and none of those behind them
+  past-sheet : (more : List (Rule PoolInput)) → NoneHolds (ofSheet (λ u. u .first) ++ more) u ↔ (Accepted a × NoneHolds more u)
+  past-sheet more = (
+    λ h. let rest = h .1 .1 .1 .1 in
+        (record { one = h .0; two = h .1 .0; three = h .1 .1 .0; four = h .1 .1 .1 .0; five = rest .0; six = rest .1 .0 }, rest .1 .1),
+    λ h. let x = h .0 in (x .one, (x .two, (x .three, (x .four, (x .five, (x .six, h .1)))))),
+  )
+
+  abbrev fifteenth : Rule PoolInput
+  fifteenth = rule 15 (λ u. secondRefused (u .second))
+
+  abbrev sixteenth : Rule PoolInput
+  sixteenth = rule 16 (λ u. otherLines (u .first) (u .second))
+
+  abbrev seventeenth : Rule PoolInput
+  seventeenth = rule 17 (λ u. otherTarget (u .first) (u .size))
+
+  abbrev eleventh : Rule PoolInput
+  eleventh = rule 11 (λ u. someSumOut (u .first) (u .second))
+
+  pub gives-fifteen : (n ≡ 15) ↔ (Accepted a × ¬ Accepted b)
+  unfolding lacks
+  gives-fifteen =
+      Iff·trans (pool-gives c .refused 15 (λ e. omega (arith, e)))
+      (Iff·trans (first-of u 15 (ofSheet (λ u. u .first)) fifteenth (sixteenth ∷ seventeenth ∷ eleventh ∷ []) tt tt refl) (
+        λ h. (past-sheet [] .0 (h .0) .0, second .0 (h .1)),
+        λ h. (past-sheet [] .1 (h .0, tt), second .1 (h .1)),
+      ))
+    where
+      second : (secondRefused b ≡ true) ↔ (¬ Accepted b)
+      second = holds-not (secondRefused b) (pool-laws .fifteen b)
+
+  pub gives-sixteen : (n ≡ 16) ↔ (Accepted a × Accepted b × ¬ SameLines a b)
+  unfolding lacks
+  gives-sixteen =
+      Iff·trans (pool-gives c .refused 16 (λ e. omega (arith, e)))
+      (Iff·trans (first-of u 16 (ofSheet (λ u. u .first) ++ fifteenth ∷ []) sixteenth (seventeenth ∷ eleventh ∷ []) tt tt refl) (
+        λ h. let (x, (y, _)) = past-sheet (fifteenth ∷ []) .0 (h .0) in (x, pool-laws .fifteen b .0 y, lines .0 (h .1)),
+        λ h. (past-sheet (fifteenth ∷ []) .1 (h .0, (pool-laws .fifteen b .1 (h .1), tt)), lines .1 (h .2)),
+      ))
+    where
+      lines : (otherLines a b ≡ true) ↔ (¬ SameLines a b)
+      lines = holds-not (otherLines a b) (pool-laws .sixteen a b)
+
+  pub gives-seventeen : (n ≡ 17) ↔ (Accepted a × Accepted b × SameLines a b × ¬ (length target ≡ length a))
+  unfolding lacks
+  gives-seventeen =
+      Iff·trans (pool-gives c .refused 17 (λ e. omega (arith, e)))
+      (Iff·trans (first-of u 17 (ofSheet (λ u. u .first) ++ fifteenth ∷ sixteenth ∷ []) seventeenth (eleventh ∷ []) tt tt refl) (
+        λ h. let (x, (y, (l, _))) = past-sheet (fifteenth ∷ sixteenth ∷ []) .0 (h .0) in (x, pool-laws .fifteen b .0 y, pool-laws .sixteen a b .0 l, size .0 (h .1)),
+        λ h. (past-sheet (fifteenth ∷ sixteenth ∷ []) .1 (h .0, (pool-laws .fifteen b .1 (h .1), (pool-laws .sixteen a b .1 (h .2), tt))), size .1 (h .3)),
+      ))
+    where
+      size : (otherTarget a (length target) ≡ true) ↔ (¬ (length target ≡ length a))
+      size = holds-not (otherTarget a (length target)) (pool-laws .seventeen a (length target))
+
+  pub gives-eleven : (n ≡ 11) ↔ (Accepted a × Accepted b × SameLines a b × (length target ≡ length a) × ¬ SumsInRange a b)
+  unfolding lacks
+  gives-eleven =
+      Iff·trans (pool-gives c .refused 11 (λ e. omega (arith, e)))
+      (Iff·trans (first-of u 11 (ofSheet (λ u. u .first) ++ fifteenth ∷ sixteenth ∷ seventeenth ∷ []) eleventh [] tt tt refl) (
+        λ h. let (x, (y, (l, (t, _)))) = past-sheet (fifteenth ∷ sixteenth ∷ seventeenth ∷ []) .0 (h .0) in
+            (x, pool-laws .fifteen b .0 y, pool-laws .sixteen a b .0 l, pool-laws .seventeen a _ .0 t, sums .0 (h .1)),
+        λ h. (
+          past-sheet (fifteenth ∷ sixteenth ∷ seventeenth ∷ []) .1 (h .0, (pool-laws .fifteen b .1 (h .1), (pool-laws .sixteen a b .1 (h .2), (pool-laws .seventeen a _ .1 (h .3), tt)))),
+          sums .1 (h .4),
+        ),
+      ))
+    where
+      sums : (someSumOut a b ≡ true) ↔ (¬ SumsInRange a b)
+      sums = holds-not (someSumOut a b) (eleven a b)

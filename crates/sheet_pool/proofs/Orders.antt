@@ -1,0 +1,179 @@
+-- The order of two sheets does not matter, nor the order and the grouping of three; and a sheet of zeros changes nothing. Assumes nothing.
+use Prim.Native.Nat.{ℕ, _<_}
+use mathlib.Core.Path.{_≡_, refl, sym, _∙_, ap}
+use mathlib.Core.Logic.{⊎-elim}
+use mathlib.Core.List.{List}
+use lib.ListN.{length}
+use lib.IntN.{ℤ, pos, _+ℤ_}
+use Rattle.integers.proofs.Polynomial.{#_, _⊕_}
+use Rattle.integers.proofs.Solve.{_≐_, solve}
+use Rattle.sheet_words.specs.Word.{Bytes}
+use Rattle.sheet_layout.specs.Format.{columns, rows, Node, node, nodeAt}
+use Rattle.sheet_layout.specs.SameLines.{SameLines}
+use Rattle.sheet_layout.proofs.SameLines.{same-sym, same-trans}
+use Rattle.sheet_calls.specs.Refusals.{Accepted}
+use Rattle.sheet_calls.proofs.WellFormed.{accepted-laws}
+use Rattle.sheet_pool.specs.Pool.{added, pooledNode, poolRefusal}
+use Rattle.sheet_pool.specs.PoolLaws.{OnSameLines, IsPool, FirstTwo, LastTwo, Grouped, InAnyOrder, AllZero}
+use Rattle.sheet_pool.proofs.Chain.{pool-taken}
+use Rattle.sheet_pool.proofs.Pooled.{pools}
+use Rattle.sheet_pool.proofs.SameBytes.{same-bytes}
+
+-- ---- sums of nodes
+
+plus-comm : (x y : ℤ) → x +ℤ y ≡ y +ℤ x
+plus-comm = solve 2 (λ x y. x ⊕ y ≐ y ⊕ x) tt
+
+plus-assoc : (x y z : ℤ) → x +ℤ (y +ℤ z) ≡ x +ℤ y +ℤ z
+plus-assoc = solve 3 (λ x y z. x ⊕ (y ⊕ z) ≐ x ⊕ y ⊕ z) tt
+
+plus-zero : (x : ℤ) → x +ℤ pos 0 ≡ x
+plus-zero = solve 1 (λ x. x ⊕ # 0 ≐ x) tt
+
+added-comm : (v w : Node) → added v w ≡ added w v
+unfolding added
+added-comm v w = λ t.
+    node (plus-comm (v .storedHeight) (w .storedHeight) t) (plus-comm (v .slopeX) (w .slopeX) t) (plus-comm (v .slopeY) (w .slopeY) t)
+
+added-assoc : (u v w : Node) → added u (added v w) ≡ added (added u v) w
+unfolding added
+added-assoc u v w = λ t.
+    node (plus-assoc (u .storedHeight) (v .storedHeight) (w .storedHeight) t) (plus-assoc (u .slopeX) (v .slopeX) (w .slopeX) t)
+    (plus-assoc (u .slopeY) (v .slopeY) (w .slopeY) t)
+
+added-zeros : (v : Node) → added v (node (pos 0) (pos 0) (pos 0)) ≡ v
+unfolding added
+added-zeros v = λ t. node (plus-zero (v .storedHeight) t) (plus-zero (v .slopeX) t) (plus-zero (v .slopeY) t)
+
+-- ---- two sheets
+
+pub either-order : (a b p q : List ℕ) → Bytes a → Bytes b → IsPool a b p → IsPool b a q → q ≡ p
+either-order a b p q ba bb x y =
+    let to : SameLines a b = x .pair .lines in
+    let lines = same-trans (same-sym (x .lines)) (same-trans to (y .lines)) in
+    same-bytes p q (record { firstAccepted = x .accepted; secondAccepted = y .accepted; lines = lines }) (x .bytes ba) (y .bytes bb)
+    (λ i j h k. let h′ = rw (x .lines .sameColumns) at h in let k′ = rw (x .lines .sameRows) at k in
+    y .nodes i j (rw (to .sameColumns) h′) (rw (to .sameRows) k′) ∙ added-comm _ _ ∙ sym (x .nodes i j h′ k′))
+
+-- ---- three
+
+-- what the pool of three has: their lines, and the sums of all three
+record Whole (a b c p : List ℕ) : Type 0 where
+  first : Accepted a
+  second : Accepted b
+  third : Accepted c
+  accepted : Accepted p
+  toSecond : SameLines a b
+  toThird : SameLines a c
+  lines : SameLines a p
+  nodes : (i j : ℕ) → i < columns a → j < rows a → nodeAt p i j ≡ added (added (nodeAt a i j) (nodeAt b i j)) (nodeAt c i j)
+  bytes : Bytes p
+
+module _ {a b c p : List ℕ} (ba : Bytes a) where
+  from-first : FirstTwo IsPool a b c p → Whole a b c p
+  from-first t =
+      let x = t .inner in
+      let y = t .outer in
+      record {
+        first = x .pair .firstAccepted;
+        second = x .pair .secondAccepted;
+        third = y .pair .secondAccepted;
+        accepted = y .accepted;
+        toSecond = x .pair .lines;
+        toThird = same-trans (x .lines) (y .pair .lines);
+        lines = same-trans (x .lines) (y .lines);
+        nodes = λ i j h k. y .nodes i j (rw (x .lines .sameColumns) h) (rw (x .lines .sameRows) k) ∙ ap (λ v. added v (nodeAt c i j)) (x .nodes i j h k);
+        bytes = y .bytes (x .bytes ba);
+      }
+
+  from-last : LastTwo IsPool a b c p → Whole a b c p
+  from-last t =
+      let x = t .inner in
+      let y = t .outer in
+      let to : SameLines a b = same-trans (y .pair .lines) (same-sym (x .lines)) in
+      record {
+        first = y .pair .firstAccepted;
+        second = x .pair .firstAccepted;
+        third = x .pair .secondAccepted;
+        accepted = y .accepted;
+        toSecond = to;
+        toThird = same-trans to (x .pair .lines);
+        lines = y .lines;
+        nodes = λ i j h k. y .nodes i j h k ∙ ap (added (nodeAt a i j)) (x .nodes i j (rw (to .sameColumns) h) (rw (to .sameRows) k)) ∙ added-assoc _ _ _;
+        bytes = y .bytes ba;
+      }
+
+  whole : Grouped IsPool a b c p → Whole a b c p
+  whole = ⊎-elim from-first from-last
+
+module _ {a b c p : List ℕ} (w : Whole a b c p) where
+  swap-first : Whole b a c p
+  swap-first =
+      let back = same-sym (w .toSecond) in
+      record {
+        first = w .second;
+        second = w .first;
+        third = w .third;
+        accepted = w .accepted;
+        toSecond = back;
+        toThird = same-trans back (w .toThird);
+        lines = same-trans back (w .lines);
+        nodes = λ i j h k.
+            w .nodes i j (rw (w .toSecond .sameColumns) at h) (rw (w .toSecond .sameRows) at k) ∙ ap (λ v. added v (nodeAt c i j)) (added-comm _ _);
+        bytes = w .bytes;
+      }
+
+  swap-last : Whole a c b p
+  swap-last = record {
+    first = w .first;
+    second = w .third;
+    third = w .second;
+    accepted = w .accepted;
+    toSecond = w .toThird;
+    toThird = w .toSecond;
+    lines = w .lines;
+    nodes = λ i j h k. w .nodes i j h k ∙ sym (added-assoc _ _ _) ∙ ap (added (nodeAt a i j)) (added-comm _ _) ∙ added-assoc _ _ _;
+    bytes = w .bytes;
+  }
+
+unique : {a b c p q : List ℕ} → Whole a b c p → Whole a b c q → q ≡ p
+unique {p = p} {q} x y =
+    same-bytes p q (record { firstAccepted = x .accepted; secondAccepted = y .accepted; lines = same-trans (same-sym (x .lines)) (y .lines) }) (x .bytes) (y .bytes)
+    (λ i j h k. let h′ = rw (x .lines .sameColumns) at h in let k′ = rw (x .lines .sameRows) at k in y .nodes i j h′ k′ ∙ sym (x .nodes i j h′ k′))
+
+pub any-order : (a b c p q : List ℕ) → Bytes a → Bytes b → Bytes c → Grouped IsPool a b c p → InAnyOrder (λ a′ b′ c′. Grouped IsPool a′ b′ c′ q → q ≡ p) a b c
+any-order a b c p q ba bb bc t =
+    let w = whole ba t in (
+      λ u. unique w (whole ba u),
+      λ u. unique (swap-last w) (whole ba u),
+      λ u. unique (swap-first w) (whole bb u),
+      λ u. unique (swap-last (swap-first w)) (whole bb u),
+      λ u. unique (swap-first (swap-last w)) (whole bc u),
+      λ u. unique (swap-last (swap-first (swap-last w))) (whole bc u),
+    )
+
+-- ---- zeros
+
+module _ {a b : List ℕ} (lines : SameLines a b) (zeros : AllZero b) (i j : ℕ) (h : i < columns a) (k : j < rows a) where
+  zeros-added : added (nodeAt a i j) (nodeAt b i j) ≡ nodeAt a i j
+  zeros-added = ap (added (nodeAt a i j)) (zeros .zeros i j (rw (lines .sameColumns) h) (rw (lines .sameRows) k)) ∙ added-zeros (nodeAt a i j)
+
+pub with-zeros : (a b p : List ℕ) → Bytes a → AllZero b → IsPool a b p → p ≡ a
+with-zeros a b p ba zeros x =
+    same-bytes a p (record { firstAccepted = x .pair .firstAccepted; secondAccepted = x .accepted; lines = x .lines }) ba (x .bytes ba)
+    (λ i j h k. x .nodes i j h k ∙ zeros-added (x .pair .lines) zeros i j h k)
+
+pub zeros-taken : (a b : List ℕ) → OnSameLines a b → AllZero b → poolRefusal a b (length a) ≡ 0
+unfolding pooledNode
+zeros-taken a b p zeros = pool-taken a b _ (record {
+  pair = p;
+  size = refl;
+  sums = λ i j h k. rw (zeros-added (p .lines) zeros i j h k) (accepted-laws .sound a (p .firstAccepted) .ranges i j h k);
+})
+
+-- the sheet of zeros first: pooled the other way it would leave a
+pub zeros-before : (a b p : List ℕ) → Bytes a → Bytes b → AllZero b → IsPool b a p → p ≡ a
+zeros-before a b p ba bb zeros x =
+    let pair : OnSameLines a b = record { firstAccepted = x .pair .secondAccepted; secondAccepted = x .pair .firstAccepted; lines = same-sym (x .pair .lines) } in
+    let back = pools a b a (zeros-taken a b pair zeros) in
+    either-order a b _ p ba bb back x ∙ with-zeros a b _ ba zeros back

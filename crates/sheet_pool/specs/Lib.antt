@@ -1,0 +1,3 @@
+pub mod Pool
+pub mod PoolLaws
+pub mod Examples

@@ -1,0 +1,4 @@
+mod Copied
+mod Lines
+mod Joined
+mod Answers

@@ -1,0 +1,3 @@
+mod Bits
+mod Written
+mod Numbers

@@ -1,0 +1,4 @@
+mod Cells
+mod Sets
+pub mod Levels
+pub mod Examples

@@ -1,0 +1,3 @@
+pub mod PoolSurface
+pub mod Slanted
+pub mod Examples
