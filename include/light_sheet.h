@@ -94,7 +94,7 @@ uint32_t lvs_fill_slopes(uint8_t *sheet, size_t len, uint32_t stiffness);
 
 /* Pools two sheets on the same lines, such as those of screen and lens: target becomes a sheet with the header and lines of the first, each height and slope of
  * which is the sum of the two. It can be pooled again, so a third sheet is added by a second call. The lines are the same where their number and every position
- * are, on both axes. What target held does not matter. All sums are looked at before the first byte is written.
+ * are, on both axes. What target held does not matter; refused, it keeps it.
  * After 1 to 6, which the first sheet is refused with, come 15, 16 and 17 in this order, and 11, a sum out of range, last.
  * Returns 0, and has written all of target; or 1 to 6, 11, 15, 16 or 17, and has written nothing. */
 uint32_t lvs_pool(const uint8_t *first, size_t first_len, const uint8_t *second, size_t second_len, uint8_t *target, size_t target_len);

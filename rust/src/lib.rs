@@ -160,8 +160,7 @@ pub fn fill_slopes(sheet: &mut [u8], stiffness: u32) -> Result<(), Refusal> {
 /// Pools two sheets on the same lines into `target`, which must be as long as the first one.
 ///
 /// It becomes a sheet with the first one's header and lines, each height and slope of which is the
-/// sum of the two; it can be pooled again. What it held does not matter. All sums are looked at
-/// before the first byte is written.
+/// sum of the two; it can be pooled again. What it held does not matter; refused, it keeps it.
 pub fn pool(first: &[u8], second: &[u8], target: &mut [u8]) -> Result<(), Refusal> {
     let (start, len) = (target.as_mut_ptr(), target.len());
     // SAFETY: all three slices are lent for their whole length; `target` to this call alone.

@@ -87,7 +87,7 @@ square-difference left f g a b = certified-sound (squares left) (nil (squareₑ 
 
 -- ---- no difference
 
-coefficient-difference : (f g : Cubic) (p : Power) →
+pub coefficient-difference : (f g : Cubic) (p : Power) →
     coefficient (difference f g) p ≡ coefficient f p *ℤ pos (g .divisor .number) -ℤ coefficient g p *ℤ pos (f .divisor .number)
 unfolding difference
 coefficient-difference f g p =

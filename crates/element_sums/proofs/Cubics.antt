@@ -1,16 +1,15 @@
 -- A sum of cubics has the sum of the values, of the heights and slopes, and of the second derivatives. Assumes nothing.
 use mathlib.Core.Path.{_∙_, ap}
 use mathlib.Core.List.{[], _∷_}
-use lib.IntN.{ℤ, pos, _-ℤ_, _*ℤ_}
+use lib.IntN.{ℤ, pos, _*ℤ_}
 use Rattle.integers.proofs.Polynomial.{var, #_, _⊕_, _⊗_, _⊝_}
 use Rattle.integers.proofs.Solve.{_≐_}
 use Rattle.integers.proofs.Deduce.{_·_, _⊨_, deduce, certified-sound}
-use Rattle.element_sibson.specs.Fraction.{Positive, positive, ℚ, _≈_, _+ℚ_, _-ℚ_, _·ℚ_, _*⁺_, _÷_, whole}
+use Rattle.element_sibson.specs.Fraction.{Positive, positive, ℚ, _≈_, _+ℚ_, _-ℚ_, _·ℚ_, _÷_, whole}
 use Rattle.element_sibson.specs.Cubic.{Cell, Point, Cubic, Power, one, r¹, s¹, r², rs, s², r³, r²s, rs², s³, coefficient, _≅_, value, byR, byS, jet, _≋_, bend}
 use Rattle.element_sibson.proofs.Quote.{Quotient, wholeₑ, _+ₑ_, _-ₑ_, _·ₑ_, _÷ₑ_, _≈ₑ_, equal, fractionₑ, fraction}
 use Rattle.element_sibson.proofs.Jets.{≋-sym, ≋-trans, _⊟_}
-use Rattle.element_sibson.proofs.Coefficients.{coefficient-of}
-use Rattle.element_sibson.proofs.Difference.{difference, jet-difference, same-everywhere}
+use Rattle.element_sibson.proofs.Difference.{difference, coefficient-difference, jet-difference, same-everywhere}
 use Rattle.element_sums.specs.Sums.{_+ⱼ_, SumOf}
 
 -- ---- sums of fractions
@@ -56,8 +55,7 @@ module _ {f g h : Cubic} (e : SumOf f g h) where
   unfolding difference
   rest = record {
     coefficients = λ p. record {
-      crossed = ap (λ c. c *ℤ (pos 1 *ℤ pos (g .divisor .number)))
-          (coefficient-of (λ q. coefficient h q *ℤ pos (f .divisor .number) -ℤ coefficient f q *ℤ pos (h .divisor .number)) (h .divisor *⁺ f .divisor) p)
+      crossed = ap (λ c. c *ℤ (pos 1 *ℤ pos (g .divisor .number))) (coefficient-difference h f p)
           ∙ deduce 6 (λ a c b d z n. (# 1 · (z ⊗ (# 1 ⊗ c ⊗ (# 1 ⊗ d)) ≐ (a ⊗ (# 1 ⊗ d) ⊕ b ⊗ (# 1 ⊗ c)) ⊗ (# 1 ⊗ n))) ∷ []
           ⊨ (z ⊗ c ⊝ a ⊗ n) ⊗ (# 1 ⊗ d) ≐ b ⊗ (# 1 ⊗ (n ⊗ c))) tt
           (coefficient f p) (pos (f .divisor .number)) (coefficient g p) (pos (g .divisor .number)) (coefficient h p) (pos (h .divisor .number))

@@ -1,4 +1,5 @@
--- Sums: corner numbers that are added give cubics that are added, and these heights, slopes and bends that are; and sums that are rounded. Assumes nothing.
+-- Sums: corner numbers that are added give cubics that are added; these give heights, slopes and bends that are added. And the rounding of a sum beside the sum
+-- of the roundings. Assumes nothing.
 use lib.IntN.{ℤ, _+ℤ_, _-ℤ_}
 use Rattle.integers.specs.Within.{_within_}
 use Rattle.element_sibson.specs.Fraction.{ℚ, _≈_, _+ℚ_, _÷_, whole}
@@ -12,9 +13,12 @@ infixl 60 _+ⱼ_
 abbrev pub _+ⱼ_ : Jet ℚ → Jet ℚ → Jet ℚ
 j +ⱼ k = record { height = j .height +ℚ k .height; xSlope = j .xSlope +ℚ k .xSlope; ySlope = j .ySlope +ℚ k .ySlope }
 
--- the same of whole numbers, at each corner of a cell
+-- the same of whole numbers, and of those at each corner of a cell
+abbrev pub plus : Jet ℤ → Jet ℤ → Jet ℤ
+plus v w = record { height = v .height +ℤ w .height; xSlope = v .xSlope +ℤ w .xSlope; ySlope = v .ySlope +ℤ w .ySlope }
+
 unfoldable pub together : (Corner → Jet ℤ) → (Corner → Jet ℤ) → Corner → Jet ℤ
-together m n c = record { height = m c .height +ℤ n c .height; xSlope = m c .xSlope +ℤ n c .xSlope; ySlope = m c .ySlope +ℤ n c .ySlope }
+together m n c = plus (m c) (n c)
 
 -- the cubic h is the sum of f and g: each of its ten coefficients is the sum of theirs, as fractions
 pub record SumOf (f g h : Cubic) : Type 0 where

@@ -5,11 +5,9 @@ use mathlib.Core.Logic.{_↔_, Iff·trans}
 use mathlib.Core.List.{List, [], _∷_, _++_}
 use mathlib.Core.Bool.{true, false}
 use native.Mathlib.Omega.{arith}
-use lib.IntN.{ℤ, _+ℤ_}
+use lib.IntN.{+ℤ-comm}
 use lib.ListN.{length}
 use Rattle.integers.specs.Within.{_within_}
-use Rattle.integers.proofs.Polynomial.{_⊕_}
-use Rattle.integers.proofs.Solve.{_≐_, solve}
 use Rattle.sheet_layout.specs.Format.{columns, rows, nodeAt}
 use Rattle.sheet_layout.specs.SameLines.{SameLines}
 use Rattle.sheet_layout.proofs.SameLines.{same-sym}
@@ -67,14 +65,11 @@ same-length {a} {b} x y l = accepted-laws .sound a x .whole ∙ sym (rw (l .same
 
 swapped : {a b : List ℕ} → SameLines a b → SumsInRange a b → SumsInRange b a
 swapped {a} {b} l s = record {
-  heights = λ i j h k. subst (λ z. z within 4095) (plus-comm (nodeAt a i j .storedHeight) (nodeAt b i j .storedHeight)) (s .heights i j (across h) (down k));
-  slopesX = λ i j h k. subst (λ z. z within 4095) (plus-comm (nodeAt a i j .slopeX) (nodeAt b i j .slopeX)) (s .slopesX i j (across h) (down k));
-  slopesY = λ i j h k. subst (λ z. z within 4095) (plus-comm (nodeAt a i j .slopeY) (nodeAt b i j .slopeY)) (s .slopesY i j (across h) (down k));
+  heights = λ i j h k. subst (λ z. z within 4095) (+ℤ-comm (nodeAt a i j .storedHeight) (nodeAt b i j .storedHeight)) (s .heights i j (across h) (down k));
+  slopesX = λ i j h k. subst (λ z. z within 4095) (+ℤ-comm (nodeAt a i j .slopeX) (nodeAt b i j .slopeX)) (s .slopesX i j (across h) (down k));
+  slopesY = λ i j h k. subst (λ z. z within 4095) (+ℤ-comm (nodeAt a i j .slopeY) (nodeAt b i j .slopeY)) (s .slopesY i j (across h) (down k));
 }
   where
-    plus-comm : (x y : ℤ) → x +ℤ y ≡ y +ℤ x
-    plus-comm = solve 2 (λ x y. x ⊕ y ≐ y ⊕ x) tt
-
     across : {i : ℕ} → i < columns b → i < columns a
     across h = rw (l .sameColumns) at h
 

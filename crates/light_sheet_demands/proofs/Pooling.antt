@@ -10,15 +10,16 @@ use Rattle.element_sums.proofs.Sums.{sum-laws}
 use Rattle.sheet_layout.specs.SameLines.{SameLines}
 use Rattle.sheet_layout.proofs.SameLines.{same-sym, same-trans}
 use Rattle.sheet_calls.specs.Refusals.{Accepted}
+use Rattle.sheet_calls.specs.WellFormed.{Inside}
 use Rattle.sheet_pool.specs.Pool.{added, poolRefusal}
 use Rattle.sheet_pool.specs.PoolLaws.{IsPool, Grouped}
 use Rattle.sheet_pool.proofs.Laws.{pool-laws}
 use Rattle.surface_of_sheet.specs.Place.{cellOf}
-use Rattle.surface_pool.specs.Slanted.{halfGrain, slanted}
+use Rattle.surface_of_sheet.specs.Steep.{steep}
 use Rattle.surface_pool.proofs.Levels.{pool-surface}
 use Rattle.surface_pool.proofs.Examples.{examples}
 use Rattle.light_sheet_demands.specs.Contracts.{Pool}
-use Rattle.light_sheet_demands.specs.Pooling.{Pooled, SumsInRange, OnePixel, PoolOfTwo, PoolOfThree, SheetsPooled}
+use Rattle.light_sheet_demands.specs.Pooling.{Pooled, SumsInRange, OnePixel, halfGrain, PoolOfTwo, PoolOfThree, SheetsPooled}
 use Rattle.light_sheet_demands.proofs.PoolRefusals.{is-taken, left, eleven, same-length, other-way, gives-fifteen, gives-sixteen, gives-seventeen, gives-eleven}
 use Rattle.light_sheet_demands.proofs.Levels.{level-given, gives-level, run-level, one-pixel}
 
@@ -67,10 +68,40 @@ three-of = ⊎-elim
     (λ t. inl (record { between = t .between; inner = is-pool (t .inner); outer = is-pool (t .outer) }))
     (λ t. inr (record { between = t .between; inner = is-pool (t .inner); outer = is-pool (t .outer) }))
 
+-- a pixel of the first sheet's mesh, on each of the others
+record Pixel (a b c p : List ℕ) (x y : ℕ) : Type 0 where
+  first : Accepted a
+  second : Accepted b × Inside b x y
+  third : Accepted c × Inside c x y
+  pool : Accepted p × Inside p x y
+
+pixel-of-three : {a b c p : List ℕ} {x y : ℕ} → Inside a x y → Grouped Pooled a b c p → Pixel a b c p x y
+pixel-of-three {x = x} {y} i = ⊎-elim
+    (λ t. let m = is-pool (t .inner) in let n = is-pool (t .outer) in
+    let b = pool-of-two (t .inner) .pixels x y in let c = pool-of-two (t .outer) .pixels x y in record {
+      first = m .pair .firstAccepted;
+      second = (m .pair .secondAccepted, b .0 .1 i);
+      third = (n .pair .secondAccepted, c .0 .1 (b .1 .1 i));
+      pool = (n .accepted, c .1 .1 (b .1 .1 i));
+    })
+    (λ t. let m = is-pool (t .inner) in let n = is-pool (t .outer) in
+    let b = pool-of-two (t .inner) .pixels x y in let q = pool-of-two (t .outer) .pixels x y in let j = b .1 .0 (q .0 .1 i) in record {
+      first = n .pair .firstAccepted;
+      second = (m .pair .firstAccepted, j);
+      third = (m .pair .secondAccepted, b .0 .1 j);
+      pool = (n .accepted, q .1 .1 i);
+    })
+
 pool-of-three : {a b c p : List ℕ} → Grouped Pooled a b c p → PoolOfThree a b c p
 pool-of-three {a} {b} {c} {p} t = record {
   readLevels = λ q r w z k m n l.
       rw (← level-given q k, ← level-given r m, ← level-given w n, ← level-given z l) (pool-surface .threeLevels a b c p (three-of t) _ _);
+  levelsGiven = λ i q r w z. let at = pixel-of-three i t in (
+    gives-level q (at .first) i,
+    gives-level r (at .second .0) (at .second .1),
+    gives-level w (at .third .0) (at .third .1),
+    gives-level z (at .pool .0) (at .pool .1),
+  );
   runLevels = λ q r w z i k m n l. rw (run-level q i k, run-level r i m, run-level w i n, run-level z i l) (pool-surface .threeLevels a b c p (three-of t) _ _);
 }
 
@@ -80,14 +111,14 @@ module _ {target p a′ b′ : List ℕ} {n : ℕ} (l : length target ≡ 40) (c
   half-taken : n ≡ 0
   half-taken = c .answer ∙ ap (poolRefusal halfGrain halfGrain) l ∙ examples .pools .0
 
-  twice-is : p ≡ slanted 4
+  twice-is : p ≡ steep 2 4 0
   twice-is = left c half-taken ∙ examples .twice
 
   attained : (n ≡ 0) × OnePixel halfGrain 1 0 (pos 1) × OnePixel p 1 0 (pos 1)
   attained = (
     half-taken,
     subst (OnePixel halfGrain 1 0) (examples .half) (one-pixel halfGrain 1 0 (examples .runs .0)),
-    rw twice-is (subst (OnePixel (slanted 4) 1 0) (examples .one) (one-pixel (slanted 4) 1 0 (examples .runs .1))),
+    rw twice-is (subst (OnePixel (steep 2 4 0) 1 0) (examples .one) (one-pixel (steep 2 4 0) 1 0 (examples .runs .1))),
   )
 
   module _ {target′ q p′ c′ : List ℕ} {m : ℕ} (l′ : length target′ ≡ 40) (d : Pool p halfGrain target′ m q p′ c′) where
@@ -96,8 +127,8 @@ module _ {target p a′ b′ : List ℕ} {n : ℕ} (l : length target ≡ 40) (c
 
     attained-by-three : (m ≡ 0) × OnePixel q 1 0 (pos 2)
     attained-by-three =
-        let thrice : q ≡ slanted 6 = left d three-taken ∙ rw twice-is (examples .thrice) in
-        (three-taken, rw thrice (subst (OnePixel (slanted 6) 1 0) (examples .two) (one-pixel (slanted 6) 1 0 (examples .runs .2))))
+        let thrice : q ≡ steep 2 6 0 = left d three-taken ∙ rw twice-is (examples .thrice) in
+        (three-taken, rw thrice (subst (OnePixel (steep 2 6 0) 1 0) (examples .two) (one-pixel (steep 2 6 0) 1 0 (examples .runs .2))))
 
 -- ---- again
 

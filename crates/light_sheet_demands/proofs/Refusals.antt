@@ -26,7 +26,7 @@ use Rattle.light_sheet_demands.specs.Demands.{FirstHolds, NoneHolds, Giv
 -- ---- the law of rules, in the demands' words
 
 module _ {Input : Type 0} (u : Input) where
-  behind : (before : List (Rule Input)) (r : Rule Input) (after : List (Rule Input)) (n : ℕ) → Each (Fails u) before → r .condition u ≡ true → r .number ≡ n →
+  pub behind : (before : List (Rule Input)) (r : Rule Input) (after : List (Rule Input)) (n : ℕ) → Each (Fails u) before → r .condition u ≡ true → r .number ≡ n →
       FirstHolds (before ++ r ∷ after) u n
   behind [] r after n f c e = inl (c, e)
   behind (b ∷ before) r after n f c e = inr (f .0, behind before r after n (f .1) c e)
@@ -43,7 +43,7 @@ module _ {Input : Type 0} (u : Input) where
   none-holds [] f = tt
   none-holds (r ∷ rules) f = (f .0, none-holds rules (f .1))
 
-  each-fails : (rules : List (Rule Input)) → NoneHolds rules u → Each (Fails u) rules
+  pub each-fails : (rules : List (Rule Input)) → NoneHolds rules u → Each (Fails u) rules
   each-fails [] f = tt
   each-fails (r ∷ rules) f = (f .0, each-fails rules (f .1))
 

@@ -1,5 +1,5 @@
--- 02's request #104, "Screen, lens and port glass", sentence by sentence, of whatever `pool` may give and leave, and `lvs_pool`; when it is refused, and that both
--- inputs come back as they were, demand 1 says too. Assumes nothing.
+-- 02's request #104, "Screen, lens and port glass", sentence by sentence, of whatever `pool` may give and leave, and `lvs_pool`; when it is refused, and that
+-- both inputs come back as they were, demand 1 says too. Assumes nothing.
 use Prim.Native.Nat.{ℕ, _<_}
 use mathlib.Core.Path.{_≡_}
 use mathlib.Core.Logic.{_↔_}
@@ -25,7 +25,7 @@ use Rattle.surface_answers.specs.AnswerLaws.{_is_}
 use Rattle.surface_answers.specs.declared.Answer.{Answer}
 use Rattle.surface_of_sheet.specs.Place.{cellOf, HasCell, place}
 use Rattle.surface_of_sheet.specs.Surface.{setOf}
-use Rattle.surface_pool.specs.Slanted.{halfGrain}
+use Rattle.surface_of_sheet.specs.Steep.{steep}
 use Rattle.light_sheet_demands.specs.Contracts.{Pool, Read, FillRun}
 use Rattle.light_sheet_demands.specs.Demands.{nodeStart, cellJet}
 
@@ -58,6 +58,10 @@ pub record GivesLevel (r : Answer) (z : ℤ) : Type 0 where
 pub record OnePixel (s : List ℕ) (x y : ℕ) (z : ℤ) : Type 0 where
   pub run : {t : List ℕ} {n : ℕ} {row row′ : List ℤ} → length row ≡ 1 → FillRun s x y row n row′ t → (n ≡ 0) × (row′ ≡ z ∷ [])
 
+-- a sheet whose height at the pixel (1, 0) is half a grain: lines 0 and 2 both ways, and the x-slope 2 at node 00
+abbrev pub halfGrain : List ℕ
+halfGrain = steep 2 2 0
+
 -- ---- two sheets
 
 -- what is shown of the pool p of a and b
@@ -83,7 +87,8 @@ pub record PoolOfTwo (a b p : List ℕ) : Type 0 where
   -- a pixel of the mesh is one of all three, in the same cell, at the same point, on the same piece
   pub pixels : (x y : ℕ) → (Inside b x y ↔ Inside a x y) × (Inside p x y ↔ Inside a x y)
   pub places : (x y : ℕ) → (place b x y ≡ place a x y) × (place p x y ≡ place a x y)
-  -- "Show also that its level differs from the sum of the two levels by at most 1 grain." Of what readings give; at every pixel of the mesh all three give a level
+  -- "Show also that its level differs from the sum of the two levels by at most 1 grain." Of what readings give, and at every pixel of the mesh all three give
+  -- a level
   pub readLevels : {s t v : List ℕ} {x y : ℕ} {q r z : Answer} {k m l : ℤ} → Read a x y 0 q s → Read b x y 0 r t → Read p x y 0 z v →
       GivesLevel q k → GivesLevel r m → GivesLevel z l → (l -ℤ (k +ℤ m)) within 1
   pub levelsGiven : {s t v : List ℕ} {x y : ℕ} {q r z : Answer} → Inside a x y → Read a x y 0 q s → Read b x y 0 r t → Read p x y 0 z v →
@@ -98,6 +103,9 @@ pub record PoolOfTwo (a b p : List ℕ) : Type 0 where
 pub record PoolOfThree (a b c p : List ℕ) : Type 0 where
   pub readLevels : {s t u v : List ℕ} {x y : ℕ} {q r w z : Answer} {k m n l : ℤ} → Read a x y 0 q s → Read b x y 0 r t → Read c x y 0 w u → Read p x y 0 z v →
       GivesLevel q k → GivesLevel r m → GivesLevel w n → GivesLevel z l → (l -ℤ (k +ℤ m +ℤ n)) within 1
+  pub levelsGiven : {s t u v : List ℕ} {x y : ℕ} {q r w z : Answer} → Inside a x y →
+      Read a x y 0 q s → Read b x y 0 r t → Read c x y 0 w u → Read p x y 0 z v →
+      ((k : ℤ) × GivesLevel q k) × ((m : ℤ) × GivesLevel r m) × ((n : ℤ) × GivesLevel w n) × ((l : ℤ) × GivesLevel z l)
   pub runLevels : {s t u v : List ℕ} {x y : ℕ} {q q′ r r′ w w′ z z′ : List ℤ} →
       FillRun a x y q 0 q′ s → FillRun b x y r 0 r′ t → FillRun c x y w 0 w′ u → FillRun p x y z 0 z′ v →
       (i : ℕ) → i < length q → i < length r → i < length w → i < length z →
@@ -110,7 +118,8 @@ pub record SheetsPooled : Type 0 where
   -- the grain is needed: this sheet's level at the pixel (1, 0) is 1, and so is that of its pool with itself, where the sum is 2
   pub attained : {target p a′ b′ : List ℕ} {n : ℕ} → length target ≡ 40 → Pool halfGrain halfGrain target n p a′ b′ →
       (n ≡ 0) × OnePixel halfGrain 1 0 (pos 1) × OnePixel p 1 0 (pos 1)
-  -- "A pool can be pooled again.": it is an accepted sheet, and with any accepted sheet on these lines only a sum can refuse it, first or second
+  -- "A pool can be pooled again.": it is an accepted sheet; with any accepted sheet on these lines and a target of their length only a sum can refuse it, first
+  -- or second
   pub accepted : {a b p : List ℕ} → Pooled a b p → Accepted p
   pub again : {a b c p target q p′ c′ : List ℕ} {n : ℕ} → Pooled a b p → Accepted c → SameLines a c → length target ≡ length a →
       Pool p c target n q p′ c′ → (n ≡ 0) ↔ SumsInRange p c
@@ -120,14 +129,15 @@ pub record SheetsPooled : Type 0 where
   pub three : {a b c p : List ℕ} → Grouped Pooled a b c p → PoolOfThree a b c p
   pub attainedByThree : {target target′ p q a′ b′ p′ c′ : List ℕ} {n m : ℕ} → length target ≡ 40 → length target′ ≡ 40 →
       Pool halfGrain halfGrain target n p a′ b′ → Pool p halfGrain target′ m q p′ c′ → (m ≡ 0) × OnePixel q 1 0 (pos 2)
-  -- the same bytes in either order, and refused in both or in none; of three, the same in whatever order and grouping. `Bytes a`: every element is below 256, as
-  -- in all that is lent; of larger ones two could spell one number in two ways
+  -- the same bytes in either order, and refused in both or in none; of three, the same in whatever order and grouping. `Bytes a`: every element is below 256,
+  -- as in all that is lent; of larger ones two could spell one number in two ways
   pub eitherOrder : {a b p q : List ℕ} → Bytes a → Bytes b → Pooled a b p → Pooled b a q → q ≡ p
   pub eitherTaken : {a b target target′ p q a′ b′ a″ b″ : List ℕ} {n m : ℕ} → length target ≡ length target′ →
       Pool a b target n p a′ b′ → Pool b a target′ m q b″ a″ → (n ≡ 0) ↔ (m ≡ 0)
   pub anyOrder : {a b c p q : List ℕ} → Bytes a → Bytes b → Bytes c → Grouped Pooled a b c p →
       InAnyOrder (λ a′ b′ c′. Grouped Pooled a′ b′ c′ q → q ≡ p) a b c
-  -- a sheet pooled with one of zeros on its lines is itself, whichever is first; with a target of its length that is never refused
+  -- a sheet pooled with one of zeros on its lines is itself, whichever is first; with a target of its length it is never refused (with the zeros first, by
+  -- `eitherTaken`)
   pub zeros : {a b p : List ℕ} → Bytes a → AllZero b → Pooled a b p → p ≡ a
   pub zerosFirst : {a b p : List ℕ} → Bytes a → Bytes b → AllZero b → Pooled b a p → p ≡ a
   pub zerosTaken : {a b target p a′ b′ : List ℕ} {n : ℕ} → Accepted a → Accepted b → SameLines a b → AllZero b → length target ≡ length a →

@@ -1,3 +1,4 @@
 pub mod Stretches
 pub mod InOrder
+pub mod Replacing
 pub mod Assembled

@@ -42,6 +42,9 @@ not-and false b c = refl
 
 -- ---- numbers one after the other, three a node
 
+pub by-threes : (m r : ℕ) → 3 * (m * r) ≡ r * m * 3
+by-threes m r = mul-comm 3 _ ∙ ap (λ k. k * 3) (mul-comm m r)
+
 module _ (n : ℕ → ℤ) where
   -- the node that has three of them, from number k on
   abbrev pub nodeFrom : ℕ → Node
@@ -58,8 +61,7 @@ module _ (n : ℕ → ℤ) where
   -- one loop over all does for loops over r rows of m nodes
   pub some-numbers : (m r : ℕ) → some wrongNumber (3 * (m * r)) ≡ some (λ j. some (λ i. not (nodeIn (nodeFrom ((j * m + i) * 3)))) m) r
   some-numbers m r =
-      let count : 3 * (m * r) ≡ r * m * 3 = mul-comm 3 _ ∙ ap (λ k. k * 3) (mul-comm m r) in
-      rw (count, some-rows wrongNumber 3 (r * m), some-rows (λ k. some (λ i. wrongNumber (k * 3 + i)) 3) m r)
+      rw (by-threes m r, some-rows wrongNumber 3 (r * m), some-rows (λ k. some (λ i. wrongNumber (k * 3 + i)) 3) m r)
       (some-cong _ _ r (λ j k. some-cong _ _ m (λ i h. sym (wrong-node ((j * m + i) * 3)))))
 
 -- ---- those of a sheet

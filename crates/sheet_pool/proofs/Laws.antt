@@ -1,8 +1,7 @@
 -- The laws of pools. Assumes nothing.
-use mathlib.Core.Path.{refl}
 use Rattle.sheet_pool.specs.PoolLaws.{PoolLaws}
 use Rattle.sheet_pool.proofs.Conditions.{numbers, fifteen, sixteen, seventeen, eleven}
-use Rattle.sheet_pool.proofs.Chain.{pool-taken, refused-is}
+use Rattle.sheet_pool.proofs.Chain.{refused-is}
 use Rattle.sheet_pool.proofs.Pooled.{pools, left-size}
 use Rattle.sheet_pool.proofs.SameBytes.{same-bytes}
 use Rattle.sheet_pool.proofs.Orders.{either-order, any-order, with-zeros, zeros-before, zeros-taken}
@@ -17,7 +16,6 @@ pool-laws = record {
   pools = pools;
   refused = refused-is;
   size = left-size;
-  taken = λ a b p sums. pool-taken a b _ (record { pair = p; size = refl; sums = sums });
   sameBytes = same-bytes;
   eitherOrder = either-order;
   anyOrder = any-order;

@@ -4,9 +4,7 @@ use mathlib.Core.Path.{_≡_, refl, sym, _∙_, ap}
 use mathlib.Core.Logic.{⊎-elim}
 use mathlib.Core.List.{List}
 use lib.ListN.{length}
-use lib.IntN.{ℤ, pos, _+ℤ_}
-use Rattle.integers.proofs.Polynomial.{#_, _⊕_}
-use Rattle.integers.proofs.Solve.{_≐_, solve}
+use lib.IntN.{pos, +ℤ-comm, +ℤ-assoc, +ℤ-idr}
 use Rattle.sheet_words.specs.Word.{Bytes}
 use Rattle.sheet_layout.specs.Format.{columns, rows, Node, node, nodeAt}
 use Rattle.sheet_layout.specs.SameLines.{SameLines}
@@ -21,29 +19,20 @@ use Rattle.sheet_pool.proofs.SameBytes.{same-bytes}
 
 -- ---- sums of nodes
 
-plus-comm : (x y : ℤ) → x +ℤ y ≡ y +ℤ x
-plus-comm = solve 2 (λ x y. x ⊕ y ≐ y ⊕ x) tt
-
-plus-assoc : (x y z : ℤ) → x +ℤ (y +ℤ z) ≡ x +ℤ y +ℤ z
-plus-assoc = solve 3 (λ x y z. x ⊕ (y ⊕ z) ≐ x ⊕ y ⊕ z) tt
-
-plus-zero : (x : ℤ) → x +ℤ pos 0 ≡ x
-plus-zero = solve 1 (λ x. x ⊕ # 0 ≐ x) tt
-
 added-comm : (v w : Node) → added v w ≡ added w v
 unfolding added
 added-comm v w = λ t.
-    node (plus-comm (v .storedHeight) (w .storedHeight) t) (plus-comm (v .slopeX) (w .slopeX) t) (plus-comm (v .slopeY) (w .slopeY) t)
+    node (+ℤ-comm (v .storedHeight) (w .storedHeight) t) (+ℤ-comm (v .slopeX) (w .slopeX) t) (+ℤ-comm (v .slopeY) (w .slopeY) t)
 
-added-assoc : (u v w : Node) → added u (added v w) ≡ added (added u v) w
+added-assoc : (u v w : Node) → added (added u v) w ≡ added u (added v w)
 unfolding added
 added-assoc u v w = λ t.
-    node (plus-assoc (u .storedHeight) (v .storedHeight) (w .storedHeight) t) (plus-assoc (u .slopeX) (v .slopeX) (w .slopeX) t)
-    (plus-assoc (u .slopeY) (v .slopeY) (w .slopeY) t)
+    node (+ℤ-assoc (u .storedHeight) (v .storedHeight) (w .storedHeight) t) (+ℤ-assoc (u .slopeX) (v .slopeX) (w .slopeX) t)
+    (+ℤ-assoc (u .slopeY) (v .slopeY) (w .slopeY) t)
 
 added-zeros : (v : Node) → added v (node (pos 0) (pos 0) (pos 0)) ≡ v
 unfolding added
-added-zeros v = λ t. node (plus-zero (v .storedHeight) t) (plus-zero (v .slopeX) t) (plus-zero (v .slopeY) t)
+added-zeros v = λ t. node (+ℤ-idr (v .storedHeight) t) (+ℤ-idr (v .slopeX) t) (+ℤ-idr (v .slopeY) t)
 
 -- ---- two sheets
 
@@ -58,10 +47,7 @@ either-order a b p q ba bb x y =
 -- ---- three
 
 -- what the pool of three has: their lines, and the sums of all three
-record Whole (a b c p : List ℕ) : Type 0 where
-  first : Accepted a
-  second : Accepted b
-  third : Accepted c
+record OfThree (a b c p : List ℕ) : Type 0 where
   accepted : Accepted p
   toSecond : SameLines a b
   toThird : SameLines a c
@@ -70,14 +56,11 @@ record Whole (a b c p : List ℕ) : Type 0 where
   bytes : Bytes p
 
 module _ {a b c p : List ℕ} (ba : Bytes a) where
-  from-first : FirstTwo IsPool a b c p → Whole a b c p
+  from-first : FirstTwo IsPool a b c p → OfThree a b c p
   from-first t =
       let x = t .inner in
       let y = t .outer in
       record {
-        first = x .pair .firstAccepted;
-        second = x .pair .secondAccepted;
-        third = y .pair .secondAccepted;
         accepted = y .accepted;
         toSecond = x .pair .lines;
         toThird = same-trans (x .lines) (y .pair .lines);
@@ -86,34 +69,28 @@ module _ {a b c p : List ℕ} (ba : Bytes a) where
         bytes = y .bytes (x .bytes ba);
       }
 
-  from-last : LastTwo IsPool a b c p → Whole a b c p
+  from-last : LastTwo IsPool a b c p → OfThree a b c p
   from-last t =
       let x = t .inner in
       let y = t .outer in
       let to : SameLines a b = same-trans (y .pair .lines) (same-sym (x .lines)) in
       record {
-        first = y .pair .firstAccepted;
-        second = x .pair .firstAccepted;
-        third = x .pair .secondAccepted;
         accepted = y .accepted;
         toSecond = to;
         toThird = same-trans to (x .pair .lines);
         lines = y .lines;
-        nodes = λ i j h k. y .nodes i j h k ∙ ap (added (nodeAt a i j)) (x .nodes i j (rw (to .sameColumns) h) (rw (to .sameRows) k)) ∙ added-assoc _ _ _;
+        nodes = λ i j h k. y .nodes i j h k ∙ ap (added (nodeAt a i j)) (x .nodes i j (rw (to .sameColumns) h) (rw (to .sameRows) k)) ∙ sym (added-assoc _ _ _);
         bytes = y .bytes ba;
       }
 
-  whole : Grouped IsPool a b c p → Whole a b c p
-  whole = ⊎-elim from-first from-last
+  of-three : Grouped IsPool a b c p → OfThree a b c p
+  of-three = ⊎-elim from-first from-last
 
-module _ {a b c p : List ℕ} (w : Whole a b c p) where
-  swap-first : Whole b a c p
+module _ {a b c p : List ℕ} (w : OfThree a b c p) where
+  swap-first : OfThree b a c p
   swap-first =
       let back = same-sym (w .toSecond) in
       record {
-        first = w .second;
-        second = w .first;
-        third = w .third;
         accepted = w .accepted;
         toSecond = back;
         toThird = same-trans back (w .toThird);
@@ -123,33 +100,30 @@ module _ {a b c p : List ℕ} (w : Whole a b c p) where
         bytes = w .bytes;
       }
 
-  swap-last : Whole a c b p
+  swap-last : OfThree a c b p
   swap-last = record {
-    first = w .first;
-    second = w .third;
-    third = w .second;
     accepted = w .accepted;
     toSecond = w .toThird;
     toThird = w .toSecond;
     lines = w .lines;
-    nodes = λ i j h k. w .nodes i j h k ∙ sym (added-assoc _ _ _) ∙ ap (added (nodeAt a i j)) (added-comm _ _) ∙ added-assoc _ _ _;
+    nodes = λ i j h k. w .nodes i j h k ∙ added-assoc _ _ _ ∙ ap (added (nodeAt a i j)) (added-comm _ _) ∙ sym (added-assoc _ _ _);
     bytes = w .bytes;
   }
 
-unique : {a b c p q : List ℕ} → Whole a b c p → Whole a b c q → q ≡ p
+unique : {a b c p q : List ℕ} → OfThree a b c p → OfThree a b c q → q ≡ p
 unique {p = p} {q} x y =
     same-bytes p q (record { firstAccepted = x .accepted; secondAccepted = y .accepted; lines = same-trans (same-sym (x .lines)) (y .lines) }) (x .bytes) (y .bytes)
     (λ i j h k. let h′ = rw (x .lines .sameColumns) at h in let k′ = rw (x .lines .sameRows) at k in y .nodes i j h′ k′ ∙ sym (x .nodes i j h′ k′))
 
 pub any-order : (a b c p q : List ℕ) → Bytes a → Bytes b → Bytes c → Grouped IsPool a b c p → InAnyOrder (λ a′ b′ c′. Grouped IsPool a′ b′ c′ q → q ≡ p) a b c
 any-order a b c p q ba bb bc t =
-    let w = whole ba t in (
-      λ u. unique w (whole ba u),
-      λ u. unique (swap-last w) (whole ba u),
-      λ u. unique (swap-first w) (whole bb u),
-      λ u. unique (swap-last (swap-first w)) (whole bb u),
-      λ u. unique (swap-first (swap-last w)) (whole bc u),
-      λ u. unique (swap-last (swap-first (swap-last w))) (whole bc u),
+    let w = of-three ba t in (
+      λ u. unique w (of-three ba u),
+      λ u. unique (swap-last w) (of-three ba u),
+      λ u. unique (swap-first w) (of-three bb u),
+      λ u. unique (swap-last (swap-first w)) (of-three bb u),
+      λ u. unique (swap-first (swap-last w)) (of-three bc u),
+      λ u. unique (swap-last (swap-first (swap-last w))) (of-three bc u),
     )
 
 -- ---- zeros

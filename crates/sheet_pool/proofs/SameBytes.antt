@@ -54,7 +54,7 @@ module _ {a b : List ℕ} (wa : WellFormed a) (wb : WellFormed b) (lines : SameL
         | no even ↦ let at : headerSize + 2 * q ≡ k = omega arith in rw at at low
       ]
 
-  pub same-front : SameFront a b
+  same-front : SameFront a b
   same-front = record { bytes = λ k h. elim (decLt k headerSize) [ yes l ↦ header k l | no l ↦ line-byte k (omega arith) h ] }
 
 -- ---- the nodes

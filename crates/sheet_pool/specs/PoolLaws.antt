@@ -31,7 +31,7 @@ pub record IsPool (a b p : List ℕ) : Type 0 where
   pub nodes : (i j : ℕ) → i < columns a → j < rows a → nodeAt p i j ≡ added (nodeAt a i j) (nodeAt b i j)
   pub bytes : Bytes a → Bytes p
 
--- p is left of three sheets in this order by two steps R, grouped either way: the first two first, or the last two
+-- what two pools, by the relation R, leave of a, b and c in this order: the first two are pooled first, or the last two
 pub record FirstTwo (R : List ℕ → List ℕ → List ℕ → Type 0) (a b c p : List ℕ) : Type 0 where
   pub between : List ℕ
   pub inner : R a b between
@@ -64,8 +64,6 @@ pub record PoolLaws : Type 0 where
   pub pools : (a b target : List ℕ) → poolRefusal a b (length target) ≡ 0 → IsPool a b (withPool a b target)
   pub refused : (a b target : List ℕ) → ¬ (poolRefusal a b (length target) ≡ 0) → withPool a b target ≡ target
   pub size : (a b target : List ℕ) → length (withPool a b target) ≡ length target
-  -- it is not refused where sheets, lines, length and sums are in order
-  pub taken : (a b : List ℕ) → OnSameLines a b → ((i j : ℕ) → i < columns a → j < rows a → InRange (pooledNode a b i j)) → poolRefusal a b (length a) ≡ 0
   -- accepted sheets on the same lines with the same numbers are the same bytes
   pub sameBytes : (a b : List ℕ) → OnSameLines a b → Bytes a → Bytes b → ((i j : ℕ) → i < columns a → j < rows a → nodeAt b i j ≡ nodeAt a i j) → b ≡ a
   -- so the order of two sheets does not matter, nor the order and the grouping of three; and one of zeros, on either side, changes nothing

@@ -8,15 +8,15 @@ use lib.Seq.{length-take-le, drop-length}
 use Rattle.sheet_words.specs.Word.{replaced}
 use Rattle.sheet_words.proofs.Replaced.{replaced-length, replaced-on}
 use Rattle.sheet_layout.specs.Format.{nodesOffset}
+use Rattle.sheet_calls.proofs.WellFormed.{lines-there}
 use Rattle.sheet_pool.specs.Pool.{pooled}
 use Rattle.sheet_pool.proofs.Chain.{Held}
 use Rattle.sheet_pool.proofs.Pooled.{is-pool, pooled-front}
 use Rattle.sheet_sums.specs.Sums.{withSums}
-use Rattle.sheet_pooling.proofs.Lines.{lines-there}
 
 module _ {a b : List ℕ} (target : List ℕ) (held : Held a b (length target)) where
   lines : nodesOffset a ≤ length a
-  lines = lines-there (held .pair .firstAccepted)
+  lines = lines-there a (held .pair .firstAccepted)
 
   lines-size : length (take (nodesOffset a) a) ≡ nodesOffset a
   lines-size = length-take-le (nodesOffset a) a lines

@@ -1,24 +1,13 @@
 -- Whether the lines of two sheets differ, from what the code finds. Assumes nothing.
-use Prim.Native.Nat.{ℕ, _≤_}
+use Prim.Native.Nat.{ℕ}
 use mathlib.Core.Path.{_≡_, refl, sym}
 use mathlib.Core.List.{List}
 use mathlib.Core.Bool.{Bool, true, not, _||_, or-true}
 use borrow.Author.Tests.{eq-eqb, ne-eqb}
-use native.Mathlib.Omega.{arith}
 use lib.Dec.{eqb}
-use lib.ListN.{length}
 use Rattle.sheet_layout.specs.Some.{some}
-use Rattle.sheet_layout.specs.Format.{headerSize, columns, rows, xLinesOffset, yLinesOffset, lineFrom, lineX, lineY, nodesOffset}
-use Rattle.sheet_calls.specs.Refusals.{Accepted}
-use Rattle.sheet_calls.proofs.WellFormed.{accepted-laws}
+use Rattle.sheet_layout.specs.Format.{columns, rows, xLinesOffset, yLinesOffset, lineFrom, lineX, lineY}
 use Rattle.sheet_pool.specs.Pool.{otherAlong, otherLines}
-
--- an accepted sheet has its header and its lines
-pub header-there : {s : List ℕ} → Accepted s → headerSize ≤ length s
-header-there {s} a = omega (arith, accepted-laws .sound s a .whole)
-
-pub lines-there : {s : List ℕ} → Accepted s → nodesOffset s ≤ length s
-lines-there {s} a = omega (arith, accepted-laws .sound s a .whole)
 
 other-count : (line line′ : ℕ → ℕ) {n m : ℕ} → ¬ (m ≡ n) → otherAlong line n line′ m ≡ true
 unfolding otherAlong

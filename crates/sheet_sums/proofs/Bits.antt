@@ -20,7 +20,7 @@ mixed n m h k = elim (decLe (suc m) n) [
   | no l ↦ rw (subℕ-neg n (suc m) (m - n) (omega arith)) (omega (arith, h, k))
 ]
 
-pub bits-sum : (x y : ℤ) → x within steepest → y within steepest → (bitsOf x + bitsOf y) % 65536 ≡ bitsOf (x +ℤ y)
+bits-sum : (x y : ℤ) → x within steepest → y within steepest → (bitsOf x + bitsOf y) % 65536 ≡ bitsOf (x +ℤ y)
 unfolding bitsOf
 bits-sum (pos n) (pos m) h k = omega (arith, h .bound, k .bound)
 bits-sum (pos n) (negsuc m) h k = mixed n m (h .bound) (k .bound)
@@ -32,7 +32,7 @@ module _ {x y : ℤ} (h : x within steepest) (k : y within steepest) where
   sum-within : (x +ℤ y) within 32767
   sum-within = within-mono (within-+ h k) (omega arith)
 
-  pub sum-small : bitsOf (x +ℤ y) < 65536
+  sum-small : bitsOf (x +ℤ y) < 65536
   sum-small = bits-small sum-within
 
   pub sum-back : signed (bitsOf (x +ℤ y)) ≡ x +ℤ y

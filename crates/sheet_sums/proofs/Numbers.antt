@@ -1,23 +1,22 @@
 -- The numbers of two poolable sheets: each is in range, and their sums, three by three, are the pool's nodes. Assumes nothing.
-use Prim.Native.Nat.{ℕ, _+_, _*_, _≤_}
+use Prim.Native.Nat.{ℕ, _+_, _*_}
 use mathlib.Core.Path.{_≡_, refl, sym, _∙_, ap, ap₂}
 use mathlib.Core.List.{List}
 use mathlib.Core.Bool.{not}
 use borrow.Author.Tests.{not-false}
-use native.Mathlib.Nat.{mul-comm}
 use native.Mathlib.Omega.{arith}
 use lib.IntN.{ℤ}
-use lib.ListN.{length, take, drop}
+use lib.ListN.{take, drop}
 use lib.Seq.{drop-at, length-take-le}
 use Rattle.sheet_words.specs.Word.{wordAt, signed, bytesOf}
 use Rattle.sheet_layout.specs.Some.{some}
-use Rattle.sheet_layout.specs.Format.{headerSize, columns, rows, encoded, slopeBytes, slopeIn, nodesOffset, nodeAt}
+use Rattle.sheet_layout.specs.Format.{columns, rows, encoded, slopeBytes, slopeIn, nodesOffset, nodeAt}
 use Rattle.sheet_layout.proofs.Gathered.{some-cong}
 use Rattle.sheet_layout.proofs.NodeRange.{slope-in}
-use Rattle.sheet_layout.proofs.NodeWords.{nodeFrom, some-numbers, node-numbers, numberOf, some-out}
+use Rattle.sheet_layout.proofs.NodeWords.{nodeFrom, by-threes, some-numbers, node-numbers, numberOf, some-out}
 use Rattle.sheet_layout.proofs.Some.{some-false-at}
 use Rattle.sheet_calls.specs.Refusals.{wrongNodes, wrongNumbers, Accepted}
-use Rattle.sheet_calls.proofs.WellFormed.{accepted-laws}
+use Rattle.sheet_calls.proofs.WellFormed.{accepted-laws, lines-there}
 use Rattle.sheet_assembly.specs.Assembled.{inOrder, assembled}
 use Rattle.sheet_assembly.proofs.InOrder.{in-order-same, in-order-rows}
 use Rattle.sheet_pool.specs.Pool.{added, pooledNode, pooled, someSumOut}
@@ -26,7 +25,7 @@ use Rattle.sheet_sums.specs.Sums.{sumAt, sumBytes, Ranged}
 
 -- ---- in range
 
-pub ranged : {s : List ℕ} → Accepted s → Ranged s (nodesOffset s) (3 * (columns s * rows s))
+ranged : {s : List ℕ} → Accepted s → Ranged s (nodesOffset s) (3 * (columns s * rows s))
 unfolding wrongNodes
 ranged {s} a = record {
   there = omega (arith, accepted-laws .sound s a .whole);
@@ -48,9 +47,6 @@ module _ {a b : List ℕ} (p : OnSameLines a b) where
   -- what the loops ask, from the offset and the count that the code has
   pub both-ranged : {o n : ℕ} → o ≡ nodesOffset a → n ≡ columns a * rows a → Ranged a o (3 * n) × Ranged b o (3 * n)
   both-ranged e f = rw (e, f) (ranged (p .firstAccepted), second-ranged)
-
-  pub header-there : headerSize ≤ length a
-  header-there = omega (arith, accepted-laws .sound a (p .firstAccepted) .whole)
 
   second-node : (i j : ℕ) → nodeAt b i j ≡ nodeFrom (λ k. signed (wordAt b (nodesOffset a + 2 * k))) ((j * columns a + i) * 3)
   second-node i j = rw (same-offset, p .lines .sameColumns) at (node-numbers b i j)
@@ -75,7 +71,6 @@ module _ {a b : List ℕ} (p : OnSameLines a b) where
   all-sums =
       let m = columns a in
       let n = rows a in
-      let count : 3 * (m * n) ≡ n * m * 3 = mul-comm 3 _ ∙ ap (λ k. k * 3) (mul-comm m n) in
-      rw (count, in-order-rows (sumBytes a b (nodesOffset a)) 3 (n * m), in-order-rows (λ k. inOrder (λ i. sumBytes a b (nodesOffset a) (k * 3 + i)) 3) m n)
+      rw (by-threes m n, in-order-rows (sumBytes a b (nodesOffset a)) 3 (n * m), in-order-rows (λ k. inOrder (λ i. sumBytes a b (nodesOffset a) (k * 3 + i)) 3) m n)
       (in-order-same _ _ n (λ j k. in-order-same _ _ m (λ i h. node-sums i j))
-      ∙ sym (drop-at (take (nodesOffset a) a) _ (nodesOffset a) (length-take-le (nodesOffset a) a (omega (arith, accepted-laws .sound a (p .firstAccepted) .whole)))))
+      ∙ sym (drop-at (take (nodesOffset a) a) _ (nodesOffset a) (length-take-le (nodesOffset a) a (lines-there a (p .firstAccepted)))))

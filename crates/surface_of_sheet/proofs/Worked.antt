@@ -24,7 +24,8 @@ use Rattle.surface_of_sheet.specs.Place.{cellOf, Place, highestAlong, co
 use Rattle.surface_of_sheet.specs.Surface.{nodeNumbers, nodesOf, setOf, levelAt, tiltXAt, tiltYAt, bendXXAt, bendXYAt, bendYYAt, level, tiltX, tiltY, bendXX, bendXY, bendYY}
 use Rattle.surface_of_sheet.specs.Read.{numbers, read}
 use Rattle.surface_of_sheet.specs.Run.{levelsAlong, slotLevel, begun, filled}
-use Rattle.surface_of_sheet.specs.Examples.{steep, Examples}
+use Rattle.surface_of_sheet.specs.Steep.{steep}
+use Rattle.surface_of_sheet.specs.Examples.{Examples}
 
 pub examples : Examples
 unfolding floorDiv round value byR byS jet bend cornerNumbers inOrder weights weighed halved transposed flipped mirrored swap negateX negateY exchanged topDown leftRight onTop onLeft sibson element rounded levelOf tiltXOf tiltYOf bendXXOf bendXYOf bendYYOf side cell signed marked supported countIn decoded heightIn slopeIn nodeIn nodeAt heightAt slopeXAt slopeYAt some refusals.otherMark refusals.otherVersion refusals.otherCounts refusals.otherLength refusals.wrongStep refusals.wrongLine refusals.wrongLines someNodeOut refusals.wrongNodes refusals.outside refusals.offMesh refusals.emptyRun refusals.otherKind firstRefusal refusals.sheetRules refusals.readingRules refusals.readingRefusal refusals.runRules refusals.runRefusal ieee.span ieee.climb ieee.size ieee.odd ieee.units ieee.round ieee.div ieee.ofInt quotient answered refused cellOf highestAlong columnAt rowAt place touches nodeNumbers nodesOf setOf levelAt tiltXAt tiltYAt bendXXAt bendXYAt bendYYAt level tiltX tiltY bendXX bendXY bendYY numbers read levelsAlong step steps slotLevel begun filled

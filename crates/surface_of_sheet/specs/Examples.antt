@@ -17,17 +17,10 @@ use Rattle.surface_answers.specs.Answers.{Outcome, answered}
 use Rattle.surface_of_sheet.specs.Place.{seen, touches}
 use Rattle.surface_of_sheet.specs.Surface.{levelAt, bendXXAt, bendYYAt}
 use Rattle.surface_of_sheet.specs.Read.{read}
+use Rattle.surface_of_sheet.specs.Steep.{steep}
 use Rattle.surface_of_sheet.specs.Run.{slotLevel, afterSteps, begun, filled}
 
 -- ---- sheets
-
--- a node of height 0 with slopes 0
-abbrev pub flatNode : List ℕ
-flatNode = 0 ∷ 0 ∷ 0 ∷ 0 ∷ 0 ∷ 0 ∷ []
-
--- lines 0 and w both ways, all numbers 0 but the x-slope of node 00, the low byte first
-abbrev pub steep : ℕ → ℕ → ℕ → List ℕ
-steep w low high = header ++ (0 ∷ 0 ∷ w ∷ 0 ∷ 0 ∷ 0 ∷ w ∷ 0 ∷ []) ++ (0 ∷ 0 ∷ low ∷ high ∷ 0 ∷ 0 ∷ []) ++ flatNode ++ flatNode ++ flatNode
 
 -- lines 0 and 2, heights 10 and 11 are 2, all x-slopes 64
 abbrev pub plane : List ℕ

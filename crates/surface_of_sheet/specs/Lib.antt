@@ -4,4 +4,5 @@ pub mod Read
 pub mod Run
 pub mod Theorems
 pub mod Touching
+pub mod Steep
 pub mod Examples

@@ -5,9 +5,8 @@ use mathlib.Core.List.{List}
 use native.Mathlib.Omega.{arith}
 use lib.IntN.{ℤ, _+ℤ_, _*ℤ_}
 use Rattle.integers.proofs.RingLaws.{*ℤ-distrib-l}
-use Rattle.element_sibson.specs.Cubic.{Jet}
 use Rattle.element_sibson.specs.Piece.{Piece, Corner, leftTop, rightTop, leftBottom, rightBottom}
-use Rattle.element_sums.specs.Sums.{together, SumOf}
+use Rattle.element_sums.specs.Sums.{plus, together, SumOf}
 use Rattle.element_sums.proofs.Sums.{sum-laws}
 use Rattle.sheet_layout.specs.Format.{columns, rows, nodeAt, grainsPerStep, heightAt, slopeXAt, slopeYAt}
 use Rattle.sheet_pool.specs.Pool.{added}
@@ -16,12 +15,8 @@ use Rattle.surface_of_sheet.specs.Place.{cellOf, HasCell}
 use Rattle.surface_of_sheet.specs.Surface.{nodeNumbers, nodesOf, setOf}
 use Rattle.surface_pool.proofs.Cells.{same-cells, pool-cells}
 
--- two nodes' numbers, added
-abbrev sum : Jet ℤ → Jet ℤ → Jet ℤ
-sum v w = record { height = v .height +ℤ w .height; xSlope = v .xSlope +ℤ w .xSlope; ySlope = v .ySlope +ℤ w .ySlope }
-
 module _ {a b p : List ℕ} (pool : IsPool a b p) where
-  node-sum : (i j : ℕ) → i < columns a → j < rows a → nodeNumbers p i j ≡ sum (nodeNumbers a i j) (nodeNumbers b i j)
+  node-sum : (i j : ℕ) → i < columns a → j < rows a → nodeNumbers p i j ≡ plus (nodeNumbers a i j) (nodeNumbers b i j)
   unfolding nodeNumbers heightAt slopeXAt slopeYAt added
   node-sum i j h k =
       ap (λ v. record { height = grainsPerStep *ℤ v .storedHeight; xSlope = v .slopeX; ySlope = v .slopeY }) (pool .nodes i j h k)

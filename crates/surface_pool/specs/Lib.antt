@@ -1,3 +1,2 @@
 pub mod PoolSurface
-pub mod Slanted
 pub mod Examples

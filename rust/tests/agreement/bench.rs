@@ -18,8 +18,8 @@ pub const MOST_PLACES: usize = 40;
 /// The longest run or target at all, always refused, and the most places: the count does not fit 32
 /// bits.
 pub const FAR: usize = (1 << 32) + 10_000;
-/// Of memory that long this many bytes are watched: more than a run or bends can fill.
-const FAR_WATCHED: usize = 20_000;
+/// Of memory that long this many bytes are watched: more than a run, bends or a pool can fill.
+const FAR_WATCHED: usize = 26_000;
 /// Sheets up to this length are printed whole.
 const SHORT: usize = 200;
 
@@ -169,7 +169,7 @@ impl Bench {
         }
     }
 
-    /// What is lent to the call: the sheet, and what else it is there to write.
+    /// What is lent to the call: its sheets, and what it is there to write.
     fn lent_to(&self, call: &Call) -> Vec<(&'static str, &Lent)> {
         let mut lent = vec![("sheet", &self.sheet)];
         match call {

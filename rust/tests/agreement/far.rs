@@ -89,6 +89,9 @@ impl Far {
         let [decoded, second] = are_far.map(|is_far| self.decoded(is_far));
         let outcome = call.outcome_beside(&decoded, &second);
         tally.count_call(call, &outcome, face.wrapped);
+        if let (Call::Pool { .. }, Ok(_)) = (call, &decoded) {
+            tally.count_second(&second);
+        }
         let kept = first_bytes == self.first_bytes && lent == held && target == held_target;
         if returned == outcome.returned && kept {
             return;

@@ -17,27 +17,37 @@ const SAME_BYTES: [(usize, usize); 6] = [(2, 3), (3, 2), (2, 65), (65, 2), (7, 5
 /// Second sheets on both sides of each condition, and targets of many lengths.
 pub fn run(bench: &mut Bench, random: &mut Random, mesh: &Sheet) {
     let first = bench.sheet().unwrap_or(mesh).clone();
-    let len = first.length();
-    bench.lay_second(&Draft::on(&first).bytes());
-    let pooled = bench.compare(Call::Pool { target: len });
+    with_zeros(bench, &first);
+    sets_of_conditions(bench, random, &first);
+    damaged_seconds(bench, random, &first);
+}
+
+/// Pooled with zeros a sheet is itself; with a target of another length it is refused.
+fn with_zeros(bench: &mut Bench, first: &Sheet) {
+    bench.lay_second(&Draft::on(first).bytes());
+    let pooled = bench.compare(Call::Pool { target: first.length() });
     if bench.sheet().is_some() {
         assert_eq!(pooled.written, Written::Target(bench.bytes().to_vec()), "pooled with zeros");
     }
-    for target in other_lengths(len) {
+    for target in other_lengths(first.length()) {
         bench.compare(Call::Pool { target });
     }
-    for set in 0..1 << CONDITIONS.len() {
-        let held = CONDITIONS.into_iter().enumerate().filter(|(k, _)| set & (1 << k) != 0);
-        refused_by(bench, random, &first, held.map(|(_, condition)| condition).collect());
+}
+
+/// Every set of conditions once, and none and the last one more often.
+fn sets_of_conditions(bench: &mut Bench, random: &mut Random, first: &Sheet) {
+    for set in (0..1 << CONDITIONS.len()).chain([0, 0, 1 << 3, 1 << 3]) {
+        let held = (0..CONDITIONS.len()).filter(|k| set & (1 << k) != 0);
+        refused_by(bench, random, first, held.map(|k| CONDITIONS[k]).collect());
     }
-    for conditions in [vec![], vec![], vec![11], vec![11]] {
-        refused_by(bench, random, &first, conditions);
-    }
+}
+
+fn damaged_seconds(bench: &mut Bench, random: &mut Random, first: &Sheet) {
     for _ in 0..2 {
-        let draft = fitting(random, &first);
+        let draft = fitting(random, first);
         let (_, bytes) = damage::damaged(random, &draft);
         bench.lay_second(&bytes);
-        bench.compare(Call::Pool { target: len });
+        bench.compare(Call::Pool { target: first.length() });
     }
 }
 

@@ -1,7 +1,8 @@
 -- `sheet_pooling::other_lines` meets its contract. Assumes nothing.
 use mathlib.Core.Path.{sym, _∙_}
 use native.Mathlib.Omega.{arith}
-use Rattle.sheet_pooling.proofs.Lines.{header-there, lines-there, other-columns, other-rows, same-counts}
+use Rattle.sheet_calls.proofs.WellFormed.{header-there, lines-there}
+use Rattle.sheet_pooling.proofs.Lines.{other-columns, other-rows, same-counts}
 use Rattle.sheet_pooling.proofs.other_lines.Statement.{statement}
 use Rattle.sheet_pooling.proofs.other_lines.Tie as tie
 
@@ -20,7 +21,7 @@ other-positions-requires c κs =
     let d = c .before .before .before in
     let m = d .before .before .columns .ensures .0 in
     let (a, b) = d .before .before .before .before .before .pre in
-    (omega (arith, lines-there a, m), omega (arith, lines-there b, m, d .before .columns2 .ensures .0, d .if1 .left))
+    (omega (arith, lines-there _ a, m), omega (arith, lines-there _ b, m, d .before .columns2 .ensures .0, d .if1 .left))
 
 other-positions-requires-2 : tie.Need-other-positions-requires-2
 other-positions-requires-2 c κs =
@@ -30,8 +31,8 @@ other-positions-requires-2 c κs =
     let n = e .before .before .rows .ensures .0 in
     let (a, b) = d .before .before .before .before .before .pre in
     let m = d .before .columns2 .ensures .0 in (
-      omega (arith, lines-there a, o, n),
-      omega (arith, lines-there b, o, n, d .before .before .columns .ensures .0, m, d .if1 .left, e .before .rows2 .ensures .0, e .if2 .left),
+      omega (arith, lines-there _ a, o, n),
+      omega (arith, lines-there _ b, o, n, d .before .before .columns .ensures .0, m, d .if1 .left, e .before .rows2 .ensures .0, e .if2 .left),
     )
 
 returns-3 : tie.Need-returns-3
@@ -48,13 +49,13 @@ pub other-lines-spec : {M : Type 1} → statement M
 other-lines-spec =
     tie.close
     (tie.spec
-    (λ c κs. header-there (c .before .before .pre .0))
-    (λ c κs. header-there (c .before .before .before .pre .1))
+    (λ c κs. header-there _ (c .before .before .pre .0))
+    (λ c κs. header-there _ (c .before .before .before .pre .1))
     returns
-    (λ c κs. header-there (c .before .before .before .before .before .pre .0))
-    (λ c κs. header-there (c .before .before .before .before .before .before .pre .1))
+    (λ c κs. header-there _ (c .before .before .before .before .before .pre .0))
+    (λ c κs. header-there _ (c .before .before .before .before .before .before .pre .1))
     returns-2
     other-positions-requires
-    (λ c κs. header-there (c .before .before .before .before .before .before .before .before .before .pre .0))
+    (λ c κs. header-there _ (c .before .before .before .before .before .before .before .before .before .pre .0))
     other-positions-requires-2
     returns-3)

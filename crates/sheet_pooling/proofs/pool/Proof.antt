@@ -3,9 +3,9 @@ use mathlib.Core.Path.{sym, _∙_, ap}
 use borrow.Author.Needs.{needs}
 use native.Mathlib.Omega.{arith}
 use lib.ListN.{length}
+use Rattle.sheet_calls.proofs.WellFormed.{header-there, lines-there}
 use Rattle.sheet_pool.proofs.Chain.{pool-held, pooled-is, refused-is}
 use Rattle.sheet_sums.specs.Sums.{withSums}
-use Rattle.sheet_pooling.proofs.Lines.{header-there, lines-there}
 use Rattle.sheet_pooling.proofs.Joined.{copied-size, joined}
 use Rattle.sheet_pooling.proofs.pool.Statement.{statement}
 use Rattle.sheet_pooling.proofs.pool.Tie as tie
@@ -18,7 +18,7 @@ copy-lines-requires c κs =
     let d = c .before in
     let held = pool-held _ _ _ (sym (d .before .pool-refusal .ensures) ∙ d .if1 .left) in
     let a = held .pair .firstAccepted in
-    (header-there a, lines-there a, omega (arith, lines-there a, held .size))
+    (header-there _ a, lines-there _ a, omega (arith, lines-there _ a, held .size))
 
 put-sums-requires : tie.Need-put-sums-requires
 put-sums-requires c κs =

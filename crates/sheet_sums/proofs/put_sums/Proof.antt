@@ -3,7 +3,8 @@ use mathlib.Core.Path.{refl, _∙_}
 use borrow.Author.Needs.{needs}
 use native.Mathlib.Omega.{arith}
 use Rattle.sheet_sums.specs.Sums.{withSums}
-use Rattle.sheet_sums.proofs.Numbers.{both-ranged, header-there, all-sums}
+use Rattle.sheet_calls.proofs.WellFormed.{header-there}
+use Rattle.sheet_sums.proofs.Numbers.{both-ranged, all-sums}
 use Rattle.sheet_sums.proofs.put_sums.Statement.{statement}
 use Rattle.sheet_sums.proofs.put_sums.Tie as tie
 
@@ -26,8 +27,8 @@ pub put-sums-spec : {M : Type 1} → statement M
 put-sums-spec =
     tie.close
     (tie.spec
-    (λ c κs. header-there (c .before .before .before .pre .0))
-    (λ c κs. header-there (c .before .before .before .before .pre .0))
+    (λ c κs. header-there _ (c .before .before .before .pre .0 .firstAccepted))
+    (λ c κs. header-there _ (c .before .before .before .before .pre .0 .firstAccepted))
     (λ c. search needs)
     put-from-requires
     (λ c. search needs)

@@ -1,7 +1,8 @@
 -- `sheet_sums::some_sum_out` meets its contract. Assumes nothing.
 use mathlib.Core.Path.{_∙_}
 use borrow.Author.Needs.{needs}
-use Rattle.sheet_sums.proofs.Numbers.{both-ranged, header-there, some-sum}
+use Rattle.sheet_calls.proofs.WellFormed.{header-there}
+use Rattle.sheet_sums.proofs.Numbers.{both-ranged, some-sum}
 use Rattle.sheet_sums.proofs.some_sum_out.Statement.{statement}
 use Rattle.sheet_sums.proofs.some_sum_out.Tie as tie
 
@@ -17,8 +18,8 @@ pub some-sum-out-spec : {M : Type 1} → statement M
 some-sum-out-spec =
     tie.close
     (tie.spec
-    (λ c κs. header-there (c .before .before .pre))
-    (λ c κs. header-there (c .before .before .before .pre))
+    (λ c κs. header-there _ (c .before .before .pre .firstAccepted))
+    (λ c κs. header-there _ (c .before .before .before .pre .firstAccepted))
     (λ c. search needs)
     some-out-from-requires
     returns)
