@@ -73,8 +73,8 @@ pub extern "C" fn lvs_fill_slopes(sheet: &mut [u8], stiffness: u32) -> u32
     light_sheet::fill_slopes(sheet, stiffness)
 }
 
-// Pools two sheets on the same lines into the target, each height and slope the sum of the two, and answers 0; or, refused (1 to 6 of the first sheet, 15, 16, 17,
-// 11), answers the number and leaves the target as it was.
+// Pools two sheets on the same lines into the target, each height and slope the sum of the two, and answers 0; or, refused (1 to 6 of the first sheet, 15, 16,
+// 17, 11), answers the number and leaves the target as it was.
 #[no_mangle]
 pub extern "C" fn lvs_pool(first: &[u8], second: &[u8], target: &mut [u8]) -> u32
     ensures answer { λ r. ⌜ r ≡ poolRefusal (now (first .entry)) (now (second .entry)) (length (now (target .entry))) ⌝ }

@@ -137,7 +137,8 @@ module _ {a b target p a′ b′ : List ℕ} {n : ℕ} (c : Pool a b target n p 
   gives-seventeen =
       Iff·trans (pool-gives c .refused 17 (λ e. omega (arith, e)))
       (Iff·trans (first-of u 17 (ofSheet (λ u. u .first) ++ fifteenth ∷ sixteenth ∷ []) seventeenth (eleventh ∷ []) tt tt refl) (
-        λ h. let (x, (y, (l, _))) = past-sheet (fifteenth ∷ sixteenth ∷ []) .0 (h .0) in (x, pool-laws .fifteen b .0 y, pool-laws .sixteen a b .0 l, size .0 (h .1)),
+        λ h. let (x, (y, (l, _))) = past-sheet (fifteenth ∷ sixteenth ∷ []) .0 (h .0) in
+            (x, pool-laws .fifteen b .0 y, pool-laws .sixteen a b .0 l, size .0 (h .1)),
         λ h. (past-sheet (fifteenth ∷ sixteenth ∷ []) .1 (h .0, (pool-laws .fifteen b .1 (h .1), (pool-laws .sixteen a b .1 (h .2), tt))), size .1 (h .3)),
       ))
     where
@@ -152,7 +153,8 @@ module _ {a b target p a′ b′ : List ℕ} {n : ℕ} (c : Pool a b target n p 
         λ h. let (x, (y, (l, (t, _)))) = past-sheet (fifteenth ∷ sixteenth ∷ seventeenth ∷ []) .0 (h .0) in
             (x, pool-laws .fifteen b .0 y, pool-laws .sixteen a b .0 l, pool-laws .seventeen a _ .0 t, sums .0 (h .1)),
         λ h. (
-          past-sheet (fifteenth ∷ sixteenth ∷ seventeenth ∷ []) .1 (h .0, (pool-laws .fifteen b .1 (h .1), (pool-laws .sixteen a b .1 (h .2), (pool-laws .seventeen a _ .1 (h .3), tt)))),
+          past-sheet (fifteenth ∷ sixteenth ∷ seventeenth ∷ []) .1
+              (h .0, (pool-laws .fifteen b .1 (h .1), (pool-laws .sixteen a b .1 (h .2), (pool-laws .seventeen a _ .1 (h .3), tt)))),
           sums .1 (h .4),
         ),
       ))

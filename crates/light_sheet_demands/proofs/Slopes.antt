@@ -119,14 +119,16 @@ module _ {s t : List ℕ} {k : ℕ} (c : FillSlopes s k 0 t) where
     unfolding answered heightAt
     level-there d =
         outcome-is d
-        ∙ rw (← left .lines .sameX i h, ← left .lines .sameY j l) (at-nodes .readLevels t i j (left .accepted) (rw (left .lines .sameColumns) h) (rw (left .lines .sameRows) l))
+        ∙ rw (← left .lines .sameX i h, ← left .lines .sameY j l)
+        (at-nodes .readLevels t i j (left .accepted) (rw (left .lines .sameColumns) h) (rw (left .lines .sameRows) l))
         ∙ ap (λ v. given (positive 64 tt) ((pos 64 *ℤ v .storedHeight) ∷ [])) (left .nodes i j h l)
 
     tilt-there : Read t (lineX s i) (lineY s j) 1 r t′ → outcome r ≡ given (positive 64 tt) (nodeAt t i j .slopeX ∷ nodeAt t i j .slopeY ∷ [])
     unfolding answered slopeXAt slopeYAt
     tilt-there d =
         outcome-is d
-        ∙ rw (← left .lines .sameX i h, ← left .lines .sameY j l) (at-nodes .readTilts t i j (left .accepted) (rw (left .lines .sameColumns) h) (rw (left .lines .sameRows) l))
+        ∙ rw (← left .lines .sameX i h, ← left .lines .sameY j l)
+        (at-nodes .readTilts t i j (left .accepted) (rw (left .lines .sameColumns) h) (rw (left .lines .sameRows) l))
 
 -- ---- of every call
 

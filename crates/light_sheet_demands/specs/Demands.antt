@@ -112,9 +112,9 @@ pub record DemandOne : Type 0 where
   pub keptByNodeOffset : {s t : List ℕ} {i j k : ℕ} → NodeOffset s i j k t → t ≡ s
   pub keptByReadInto : {s t : List ℕ} {x y kind n : ℕ} {array array′ : List ℕ} → ReadInto s x y kind array n array′ t → t ≡ s
   pub keptByBendsInto : {s t : List ℕ} {x y count n count′ : ℕ} {buffer buffer′ : List ℤ} → BendsInto s x y buffer count n buffer′ count′ t → t ≡ s
-  -- `set_node` is there to write the six bytes of a node, `fill_slopes` the last four bytes of each, `pool` all of the target, `fill_run` all slots of the row,
-  -- `bends` three places for each piece that it counts, `lvs_bends` these and the count, and `lvs_read` as many of the array as the kind has values: one, two or
-  -- three; refused, none writes. The array is stated as words of 64 bits, so a kept slot keeps every bit, whatever it holds, a NaN too
+  -- `set_node` is there to write the six bytes of a node, `fill_slopes` the last four bytes of each, `pool` all of the target, `fill_run` all slots of the
+  -- row, `bends` three places for each piece that it counts, `lvs_bends` these and the count, and `lvs_read` as many of the array as the kind has values: one,
+  -- two or three; refused, none writes. The array is stated as words of 64 bits, so a kept slot keeps every bit, whatever it holds, a NaN too
   pub sheetSize : {s t : List ℕ} {i j n : ℕ} {v : Node} → SetNode s i j v n t → length t ≡ length s
   pub beforeNode : {s t : List ℕ} {i j n : ℕ} {v : Node} → SetNode s i j v n t → (k : ℕ) → k < nodeStart s i j → byteAt t k ≡ byteAt s k
   pub afterNode : {s t : List ℕ} {i j n : ℕ} {v : Node} → SetNode s i j v n t → (k : ℕ) → nodeStart s i j + 6 ≤ k → byteAt t k ≡ byteAt s k

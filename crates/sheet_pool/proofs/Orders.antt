@@ -112,7 +112,8 @@ module _ {a b c p : List ℕ} (w : OfThree a b c p) where
 
 unique : {a b c p q : List ℕ} → OfThree a b c p → OfThree a b c q → q ≡ p
 unique {p = p} {q} x y =
-    same-bytes p q (record { firstAccepted = x .accepted; secondAccepted = y .accepted; lines = same-trans (same-sym (x .lines)) (y .lines) }) (x .bytes) (y .bytes)
+    let lines = same-trans (same-sym (x .lines)) (y .lines) in
+    same-bytes p q (record { firstAccepted = x .accepted; secondAccepted = y .accepted; lines = lines }) (x .bytes) (y .bytes)
     (λ i j h k. let h′ = rw (x .lines .sameColumns) at h in let k′ = rw (x .lines .sameRows) at k in y .nodes i j h′ k′ ∙ sym (x .nodes i j h′ k′))
 
 pub any-order : (a b c p q : List ℕ) → Bytes a → Bytes b → Bytes c → Grouped IsPool a b c p → InAnyOrder (λ a′ b′ c′. Grouped IsPool a′ b′ c′ q → q ≡ p) a b c
@@ -148,6 +149,7 @@ zeros-taken a b p zeros = pool-taken a b _ (record {
 -- the sheet of zeros first: pooled the other way it would leave a
 pub zeros-before : (a b p : List ℕ) → Bytes a → Bytes b → AllZero b → IsPool b a p → p ≡ a
 zeros-before a b p ba bb zeros x =
-    let pair : OnSameLines a b = record { firstAccepted = x .pair .secondAccepted; secondAccepted = x .pair .firstAccepted; lines = same-sym (x .pair .lines) } in
+    let lines = same-sym (x .pair .lines) in
+    let pair : OnSameLines a b = record { firstAccepted = x .pair .secondAccepted; secondAccepted = x .pair .firstAccepted; lines = lines } in
     let back = pools a b a (zeros-taken a b pair zeros) in
     either-order a b _ p ba bb back x ∙ with-zeros a b _ ba zeros back

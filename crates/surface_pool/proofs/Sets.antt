@@ -45,4 +45,5 @@ module _ {a b p : List ℕ} (pool : IsPool a b p) where
   pub sets : (i j : ℕ) → HasCell a i j → (k : Piece) → SumOf (setOf a i j k) (setOf b i j k) (setOf p i j k)
   unfolding setOf
   sets i j h k =
-      rw (same-cells (pool .pair) .cells i j h, pool-cells pool .cells i j h, nodes-sum i j h) (sum-laws .elements (cellOf a i j) (nodesOf a i j) (nodesOf b i j) k)
+      rw (same-cells (pool .pair) .cells i j h, pool-cells pool .cells i j h, nodes-sum i j h)
+      (sum-laws .elements (cellOf a i j) (nodesOf a i j) (nodesOf b i j) k)
