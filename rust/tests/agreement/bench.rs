@@ -101,8 +101,13 @@ impl Bench {
     /// The same, bare or through the wrapper.
     pub fn compare_by(&mut self, call: Call, wrapped: bool) -> Outcome {
         let outcome = call.outcome_beside(&self.decoded, &self.second_decoded);
-        self.sheet.allow_writing(call.writes_sheet());
         self.lend_places(&call);
+        // A bare call that is to be refused may not even write a sheet and put it back.
+        let writes = wrapped || !matches!(outcome.written, Written::Nothing);
+        self.sheet.allow_writing(call.writes_sheet() && writes);
+        if let Call::Pool { .. } = call {
+            self.target.allow_writing(writes);
+        }
         let returned = self.make(&call, wrapped);
         self.expect(&call, &outcome);
         match call {
@@ -206,7 +211,6 @@ impl Bench {
             lent.restore();
         }
         if !self.sheet.is_as_expected() {
-            self.sheet.allow_writing(true);
             self.sheet.restore();
         }
     }

@@ -93,7 +93,6 @@ impl Lent {
 
     /// Lends so many bytes as these, which they hold, at a multiple of `step`.
     pub fn lend_holding(&mut self, bytes: &[u8], step: usize, turn: u64) {
-        self.allow_writing(true);
         self.lend(bytes.len(), Place::in_turn(turn, step), turn);
         self.expect(0, bytes);
         self.restore();
@@ -143,8 +142,9 @@ impl Lent {
         ))
     }
 
-    /// Makes what is watched hold what it should.
+    /// Makes what is watched hold what it should. From now on the pages may be written.
     pub fn restore(&mut self) {
+        self.allow_writing(true);
         let start = self.base.wrapping_add(self.window);
         // SAFETY: the image is as long as what is watched, which lies inside the pages.
         unsafe { ptr::copy_nonoverlapping(self.image.as_ptr(), start, self.image.len()) };
