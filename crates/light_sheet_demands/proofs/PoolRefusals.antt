@@ -1,11 +1,10 @@
 -- When pooling gives each of its numbers, by what holds of its input. Assumes nothing.
 use Prim.Native.Nat.{ℕ, _<_}
-use mathlib.Core.Path.{_≡_, refl, sym, _∙_, subst}
+use mathlib.Core.Path.{_≡_, sym, _∙_, subst}
 use mathlib.Core.Logic.{_↔_, Iff·trans}
 use mathlib.Core.List.{List, [], _∷_, _++_}
-use mathlib.Core.Bool.{true, false}
-use native.Mathlib.Omega.{arith}
-use lib.IntN.{+ℤ-comm}
+use mathlib.Core.Bool.{false}
+use lib.IntN.{ℤ, _+ℤ_, +ℤ-comm}
 use lib.ListN.{length}
 use Rattle.integers.specs.Within.{_within_}
 use Rattle.sheet_layout.specs.Format.{columns, rows, nodeAt}
@@ -19,10 +18,10 @@ use Rattle.sheet_pool.specs.Pool.{added, pooledNode, pooled, secondRefused, oth
 use Rattle.sheet_pool.proofs.Chain.{pool-held, pool-taken, pooled-is}
 use Rattle.sheet_pool.proofs.Laws.{pool-laws}
 use Rattle.light_sheet_demands.specs.Contracts.{Pool}
-use Rattle.light_sheet_demands.specs.Demands.{NoneHolds, ofSheet}
+use Rattle.light_sheet_demands.specs.Demands.{ofSheet}
 use Rattle.light_sheet_demands.specs.Pooling.{SumsInRange}
 use Rattle.light_sheet_demands.proofs.Refusals.{pool-gives}
-use Rattle.light_sheet_demands.proofs.Numbers.{holds-not, lacks, first-of}
+use Rattle.light_sheet_demands.proofs.Numbers.{lacks, number-of, past-sheet}
 
 -- ---- when it is taken
 
@@ -65,11 +64,14 @@ same-length {a} {b} x y l = accepted-laws .sound a x .whole ∙ sym (rw (l .same
 
 swapped : {a b : List ℕ} → SameLines a b → SumsInRange a b → SumsInRange b a
 swapped {a} {b} l s = record {
-  heights = λ i j h k. subst (λ z. z within 4095) (+ℤ-comm (nodeAt a i j .storedHeight) (nodeAt b i j .storedHeight)) (s .heights i j (across h) (down k));
-  slopesX = λ i j h k. subst (λ z. z within 4095) (+ℤ-comm (nodeAt a i j .slopeX) (nodeAt b i j .slopeX)) (s .slopesX i j (across h) (down k));
-  slopesY = λ i j h k. subst (λ z. z within 4095) (+ℤ-comm (nodeAt a i j .slopeY) (nodeAt b i j .slopeY)) (s .slopesY i j (across h) (down k));
+  heights = λ i j h k. turned (nodeAt a i j .storedHeight) (nodeAt b i j .storedHeight) (s .heights i j (across h) (down k));
+  slopesX = λ i j h k. turned (nodeAt a i j .slopeX) (nodeAt b i j .slopeX) (s .slopesX i j (across h) (down k));
+  slopesY = λ i j h k. turned (nodeAt a i j .slopeY) (nodeAt b i j .slopeY) (s .slopesY i j (across h) (down k));
 }
   where
+    turned : (x y : ℤ) → (x +ℤ y) within 4095 → (y +ℤ x) within 4095
+    turned x y = subst (λ z. z within 4095) (+ℤ-comm x y)
+
     across : {i : ℕ} → i < columns b → i < columns a
     across h = rw (l .sameColumns) at h
 
@@ -85,16 +87,11 @@ other-way t c d e =
 -- ---- each number
 
 module _ {a b target p a′ b′ : List ℕ} {n : ℕ} (c : Pool a b target n p a′ b′) where
+  abbrev sheet : PoolInput → List ℕ
+  sheet u = u .first
+
   abbrev u : PoolInput
   u = record { first = a; second = b; size = length target }
-
-  -- where none of the first sheet's rules holds, and none of those behind them
-  past-sheet : (more : List (Rule PoolInput)) → NoneHolds (ofSheet (λ u. u .first) ++ more) u ↔ (Accepted a × NoneHolds more u)
-  past-sheet more = (
-    λ h. let rest = h .1 .1 .1 .1 in
-        (record { one = h .0; two = h .1 .0; three = h .1 .1 .0; four = h .1 .1 .1 .0; five = rest .0; six = rest .1 .0 }, rest .1 .1),
-    λ h. let x = h .0 in (x .one, (x .two, (x .three, (x .four, (x .five, (x .six, h .1)))))),
-  )
 
   abbrev fifteenth : Rule PoolInput
   fifteenth = rule 15 (λ u. secondRefused (u .second))
@@ -110,54 +107,32 @@ module _ {a b target p a′ b′ : List ℕ} {n : ℕ} (c : Pool a b target n p 
 
   pub gives-fifteen : (n ≡ 15) ↔ (Accepted a × ¬ Accepted b)
   unfolding lacks
-  gives-fifteen =
-      Iff·trans (pool-gives c .refused 15 (λ e. omega (arith, e)))
-      (Iff·trans (first-of u 15 (ofSheet (λ u. u .first)) fifteenth (sixteenth ∷ seventeenth ∷ eleventh ∷ []) tt tt refl) (
-        λ h. (past-sheet [] .0 (h .0) .0, second .0 (h .1)),
-        λ h. (past-sheet [] .1 (h .0, tt), second .1 (h .1)),
-      ))
-    where
-      second : (secondRefused b ≡ true) ↔ (¬ Accepted b)
-      second = holds-not (secondRefused b) (pool-laws .fifteen b)
+  gives-fifteen = number-of (ofSheet sheet) fifteenth (sixteenth ∷ seventeenth ∷ eleventh ∷ []) (pool-gives c) tt tt tt
+      (λ h. past-sheet sheet u [] .0 h .0, λ x. past-sheet sheet u [] .1 (x, tt)) (pool-laws .fifteen b)
 
   pub gives-sixteen : (n ≡ 16) ↔ (Accepted a × Accepted b × ¬ SameLines a b)
   unfolding lacks
-  gives-sixteen =
-      Iff·trans (pool-gives c .refused 16 (λ e. omega (arith, e)))
-      (Iff·trans (first-of u 16 (ofSheet (λ u. u .first) ++ fifteenth ∷ []) sixteenth (seventeenth ∷ eleventh ∷ []) tt tt refl) (
-        λ h. let (x, (y, _)) = past-sheet (fifteenth ∷ []) .0 (h .0) in (x, pool-laws .fifteen b .0 y, lines .0 (h .1)),
-        λ h. (past-sheet (fifteenth ∷ []) .1 (h .0, (pool-laws .fifteen b .1 (h .1), tt)), lines .1 (h .2)),
-      ))
-    where
-      lines : (otherLines a b ≡ true) ↔ (¬ SameLines a b)
-      lines = holds-not (otherLines a b) (pool-laws .sixteen a b)
+  gives-sixteen = Iff·trans
+      (number-of (ofSheet sheet ++ fifteenth ∷ []) sixteenth (seventeenth ∷ eleventh ∷ []) (pool-gives c) tt tt tt
+      (past-sheet sheet u (fifteenth ∷ [])) (pool-laws .sixteen a b)) (
+        λ ((x, (y, _)), l). (x, pool-laws .fifteen b .0 y, l),
+        λ (x, y, l). ((x, (pool-laws .fifteen b .1 y, tt)), l),
+      )
 
   pub gives-seventeen : (n ≡ 17) ↔ (Accepted a × Accepted b × SameLines a b × ¬ (length target ≡ length a))
   unfolding lacks
-  gives-seventeen =
-      Iff·trans (pool-gives c .refused 17 (λ e. omega (arith, e)))
-      (Iff·trans (first-of u 17 (ofSheet (λ u. u .first) ++ fifteenth ∷ sixteenth ∷ []) seventeenth (eleventh ∷ []) tt tt refl) (
-        λ h. let (x, (y, (l, _))) = past-sheet (fifteenth ∷ sixteenth ∷ []) .0 (h .0) in
-            (x, pool-laws .fifteen b .0 y, pool-laws .sixteen a b .0 l, size .0 (h .1)),
-        λ h. (past-sheet (fifteenth ∷ sixteenth ∷ []) .1 (h .0, (pool-laws .fifteen b .1 (h .1), (pool-laws .sixteen a b .1 (h .2), tt))), size .1 (h .3)),
-      ))
-    where
-      size : (otherTarget a (length target) ≡ true) ↔ (¬ (length target ≡ length a))
-      size = holds-not (otherTarget a (length target)) (pool-laws .seventeen a (length target))
+  gives-seventeen = Iff·trans
+      (number-of (ofSheet sheet ++ fifteenth ∷ sixteenth ∷ []) seventeenth (eleventh ∷ []) (pool-gives c) tt tt tt
+      (past-sheet sheet u (fifteenth ∷ sixteenth ∷ [])) (pool-laws .seventeen a (length target))) (
+        λ ((x, (y, (l, _))), t). (x, pool-laws .fifteen b .0 y, pool-laws .sixteen a b .0 l, t),
+        λ (x, y, l, t). ((x, (pool-laws .fifteen b .1 y, (pool-laws .sixteen a b .1 l, tt))), t),
+      )
 
   pub gives-eleven : (n ≡ 11) ↔ (Accepted a × Accepted b × SameLines a b × (length target ≡ length a) × ¬ SumsInRange a b)
   unfolding lacks
-  gives-eleven =
-      Iff·trans (pool-gives c .refused 11 (λ e. omega (arith, e)))
-      (Iff·trans (first-of u 11 (ofSheet (λ u. u .first) ++ fifteenth ∷ sixteenth ∷ seventeenth ∷ []) eleventh [] tt tt refl) (
-        λ h. let (x, (y, (l, (t, _)))) = past-sheet (fifteenth ∷ sixteenth ∷ seventeenth ∷ []) .0 (h .0) in
-            (x, pool-laws .fifteen b .0 y, pool-laws .sixteen a b .0 l, pool-laws .seventeen a _ .0 t, sums .0 (h .1)),
-        λ h. (
-          past-sheet (fifteenth ∷ sixteenth ∷ seventeenth ∷ []) .1
-              (h .0, (pool-laws .fifteen b .1 (h .1), (pool-laws .sixteen a b .1 (h .2), (pool-laws .seventeen a _ .1 (h .3), tt)))),
-          sums .1 (h .4),
-        ),
-      ))
-    where
-      sums : (someSumOut a b ≡ true) ↔ (¬ SumsInRange a b)
-      sums = holds-not (someSumOut a b) (eleven a b)
+  gives-eleven = Iff·trans
+      (number-of (ofSheet sheet ++ fifteenth ∷ sixteenth ∷ seventeenth ∷ []) eleventh [] (pool-gives c) tt tt tt
+      (past-sheet sheet u (fifteenth ∷ sixteenth ∷ seventeenth ∷ [])) (eleven a b)) (
+        λ ((x, (y, (l, (t, _)))), s). (x, pool-laws .fifteen b .0 y, pool-laws .sixteen a b .0 l, pool-laws .seventeen a _ .0 t, s),
+        λ (x, y, l, t, s). ((x, (pool-laws .fifteen b .1 y, (pool-laws .sixteen a b .1 l, (pool-laws .seventeen a _ .1 t, tt)))), s),
+      )

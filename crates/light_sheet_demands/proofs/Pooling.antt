@@ -16,6 +16,7 @@ use Rattle.sheet_pool.specs.PoolLaws.{IsPool, Grouped}
 use Rattle.sheet_pool.proofs.Laws.{pool-laws}
 use Rattle.surface_of_sheet.specs.Place.{cellOf}
 use Rattle.surface_of_sheet.specs.Steep.{steep}
+use Rattle.surface_pool.proofs.Cells.{pool-cells}
 use Rattle.surface_pool.proofs.Levels.{pool-surface}
 use Rattle.surface_pool.proofs.Examples.{examples}
 use Rattle.light_sheet_demands.specs.Contracts.{Pool}
@@ -33,7 +34,7 @@ unfolding added
 pool-of-two {a} {b} {p} c =
     let x = is-pool c in
     let to-b = pool-surface .same a b (x .pair) in
-    let to-p = pool-surface .same a p (record { firstAccepted = x .pair .firstAccepted; secondAccepted = x .accepted; lines = x .lines }) in
+    let to-p = pool-cells x in
     let sets = pool-surface .sets a b p x in
     record {
       onLines = x .pair .lines;

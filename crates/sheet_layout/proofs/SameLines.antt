@@ -1,5 +1,5 @@
 -- Sheets on the same lines: those with the same bytes before the nodes are; it goes both ways, and from one sheet on to the next. Assumes nothing.
-use mathlib.Core.Path.{sym, _∙_}
+use mathlib.Core.Path.{refl, sym, _∙_}
 use mathlib.Core.List.{List}
 use Prim.Native.Nat.{ℕ}
 use Rattle.sheet_layout.specs.SameLines.{SameLines}
@@ -7,6 +7,9 @@ use Rattle.sheet_layout.proofs.SameFront.{SameFront, same-columns, same
 
 pub front-lines : {s t : List ℕ} → SameFront s t → SameLines s t
 front-lines same = record { sameColumns = same-columns same; sameRows = same-rows same; sameX = same-lineX same; sameY = same-lineY same }
+
+pub same-refl : {a : List ℕ} → SameLines a a
+same-refl = record { sameColumns = refl; sameRows = refl; sameX = λ k h. refl; sameY = λ k h. refl }
 
 pub same-sym : {a b : List ℕ} → SameLines a b → SameLines b a
 same-sym l = record {

@@ -8,7 +8,7 @@ use lib.IntN.{pos, +ℤ-comm, +ℤ-assoc, +ℤ-idr}
 use Rattle.sheet_words.specs.Word.{Bytes}
 use Rattle.sheet_layout.specs.Format.{columns, rows, Node, node, nodeAt}
 use Rattle.sheet_layout.specs.SameLines.{SameLines}
-use Rattle.sheet_layout.proofs.SameLines.{same-sym, same-trans}
+use Rattle.sheet_layout.proofs.SameLines.{same-refl, same-sym, same-trans}
 use Rattle.sheet_calls.specs.Refusals.{Accepted}
 use Rattle.sheet_calls.proofs.WellFormed.{accepted-laws}
 use Rattle.sheet_pool.specs.Pool.{added, pooledNode, poolRefusal}
@@ -34,26 +34,45 @@ added-zeros : (v : Node) → added v (node (pos 0) (pos 0) (pos 0)) ≡ v
 unfolding added
 added-zeros v = λ t. node (+ℤ-idr (v .storedHeight) t) (+ℤ-idr (v .slopeX) t) (+ℤ-idr (v .slopeY) t)
 
+-- ---- one sheet from its lines and its nodes
+
+-- p is a sheet on the lines of a, with these nodes
+record HasNodes (a : List ℕ) (f : ℕ → ℕ → Node) (p : List ℕ) : Type 0 where
+  accepted : Accepted p
+  lines : SameLines a p
+  nodes : (i j : ℕ) → i < columns a → j < rows a → nodeAt p i j ≡ f i j
+  bytes : Bytes p
+
+unique : {a p q : List ℕ} {f : ℕ → ℕ → Node} → HasNodes a f p → HasNodes a f q → q ≡ p
+unique {p = p} {q} x y =
+    let lines = same-trans (same-sym (x .lines)) (y .lines) in
+    same-bytes p q (record { firstAccepted = x .accepted; secondAccepted = y .accepted; lines = lines }) (x .bytes) (y .bytes)
+    (λ i j h k. let h′ = rw (x .lines .sameColumns) at h in let k′ = rw (x .lines .sameRows) at k in y .nodes i j h′ k′ ∙ sym (x .nodes i j h′ k′))
+
+-- the same, seen from another sheet on these lines, its nodes said in another way
+seen-from : {a b p : List ℕ} {f g : ℕ → ℕ → Node} → SameLines b a → ((i j : ℕ) → i < columns b → j < rows b → f i j ≡ g i j) → HasNodes a f p → HasNodes b g p
+seen-from l e x = record {
+  accepted = x .accepted;
+  lines = same-trans l (x .lines);
+  nodes = λ i j h k. x .nodes i j (rw (l .sameColumns) h) (rw (l .sameRows) k) ∙ e i j h k;
+  bytes = x .bytes;
+}
+
 -- ---- two sheets
 
+of-two : {a b p : List ℕ} → Bytes a → IsPool a b p → HasNodes a (λ i j. added (nodeAt a i j) (nodeAt b i j)) p
+of-two ba x = record { accepted = x .accepted; lines = x .lines; nodes = x .nodes; bytes = x .bytes ba }
+
 pub either-order : (a b p q : List ℕ) → Bytes a → Bytes b → IsPool a b p → IsPool b a q → q ≡ p
-either-order a b p q ba bb x y =
-    let to : SameLines a b = x .pair .lines in
-    let lines = same-trans (same-sym (x .lines)) (same-trans to (y .lines)) in
-    same-bytes p q (record { firstAccepted = x .accepted; secondAccepted = y .accepted; lines = lines }) (x .bytes ba) (y .bytes bb)
-    (λ i j h k. let h′ = rw (x .lines .sameColumns) at h in let k′ = rw (x .lines .sameRows) at k in
-    y .nodes i j (rw (to .sameColumns) h′) (rw (to .sameRows) k′) ∙ added-comm _ _ ∙ sym (x .nodes i j h′ k′))
+either-order a b p q ba bb x y = unique (of-two ba x) (seen-from (x .pair .lines) (λ i j h k. added-comm _ _) (of-two bb y))
 
 -- ---- three
 
 -- what the pool of three has: their lines, and the sums of all three
 record OfThree (a b c p : List ℕ) : Type 0 where
-  accepted : Accepted p
   toSecond : SameLines a b
   toThird : SameLines a c
-  lines : SameLines a p
-  nodes : (i j : ℕ) → i < columns a → j < rows a → nodeAt p i j ≡ added (added (nodeAt a i j) (nodeAt b i j)) (nodeAt c i j)
-  bytes : Bytes p
+  sums : HasNodes a (λ i j. added (added (nodeAt a i j) (nodeAt b i j)) (nodeAt c i j)) p
 
 module _ {a b c p : List ℕ} (ba : Bytes a) where
   from-first : FirstTwo IsPool a b c p → OfThree a b c p
@@ -61,12 +80,9 @@ module _ {a b c p : List ℕ} (ba : Bytes a) where
       let x = t .inner in
       let y = t .outer in
       record {
-        accepted = y .accepted;
         toSecond = x .pair .lines;
         toThird = same-trans (x .lines) (y .pair .lines);
-        lines = same-trans (x .lines) (y .lines);
-        nodes = λ i j h k. y .nodes i j (rw (x .lines .sameColumns) h) (rw (x .lines .sameRows) k) ∙ ap (λ v. added v (nodeAt c i j)) (x .nodes i j h k);
-        bytes = y .bytes (x .bytes ba);
+        sums = seen-from (x .lines) (λ i j h k. ap (λ v. added v (nodeAt c i j)) (x .nodes i j h k)) (of-two (x .bytes ba) y);
       }
 
   from-last : LastTwo IsPool a b c p → OfThree a b c p
@@ -75,12 +91,10 @@ module _ {a b c p : List ℕ} (ba : Bytes a) where
       let y = t .outer in
       let to : SameLines a b = same-trans (y .pair .lines) (same-sym (x .lines)) in
       record {
-        accepted = y .accepted;
         toSecond = to;
         toThird = same-trans to (x .pair .lines);
-        lines = y .lines;
-        nodes = λ i j h k. y .nodes i j h k ∙ ap (added (nodeAt a i j)) (x .nodes i j (rw (to .sameColumns) h) (rw (to .sameRows) k)) ∙ sym (added-assoc _ _ _);
-        bytes = y .bytes ba;
+        sums = seen-from same-refl
+            (λ i j h k. ap (added (nodeAt a i j)) (x .nodes i j (rw (to .sameColumns) h) (rw (to .sameRows) k)) ∙ sym (added-assoc _ _ _)) (of-two ba y);
       }
 
   of-three : Grouped IsPool a b c p → OfThree a b c p
@@ -91,40 +105,27 @@ module _ {a b c p : List ℕ} (w : OfThree a b c p) where
   swap-first =
       let back = same-sym (w .toSecond) in
       record {
-        accepted = w .accepted;
         toSecond = back;
         toThird = same-trans back (w .toThird);
-        lines = same-trans back (w .lines);
-        nodes = λ i j h k.
-            w .nodes i j (rw (w .toSecond .sameColumns) at h) (rw (w .toSecond .sameRows) at k) ∙ ap (λ v. added v (nodeAt c i j)) (added-comm _ _);
-        bytes = w .bytes;
+        sums = seen-from back (λ i j h k. ap (λ v. added v (nodeAt c i j)) (added-comm _ _)) (w .sums);
       }
 
   swap-last : OfThree a c b p
   swap-last = record {
-    accepted = w .accepted;
     toSecond = w .toThird;
     toThird = w .toSecond;
-    lines = w .lines;
-    nodes = λ i j h k. w .nodes i j h k ∙ added-assoc _ _ _ ∙ ap (added (nodeAt a i j)) (added-comm _ _) ∙ sym (added-assoc _ _ _);
-    bytes = w .bytes;
+    sums = seen-from same-refl (λ i j h k. added-assoc _ _ _ ∙ ap (added (nodeAt a i j)) (added-comm _ _) ∙ sym (added-assoc _ _ _)) (w .sums);
   }
-
-unique : {a b c p q : List ℕ} → OfThree a b c p → OfThree a b c q → q ≡ p
-unique {p = p} {q} x y =
-    let lines = same-trans (same-sym (x .lines)) (y .lines) in
-    same-bytes p q (record { firstAccepted = x .accepted; secondAccepted = y .accepted; lines = lines }) (x .bytes) (y .bytes)
-    (λ i j h k. let h′ = rw (x .lines .sameColumns) at h in let k′ = rw (x .lines .sameRows) at k in y .nodes i j h′ k′ ∙ sym (x .nodes i j h′ k′))
 
 pub any-order : (a b c p q : List ℕ) → Bytes a → Bytes b → Bytes c → Grouped IsPool a b c p → InAnyOrder (λ a′ b′ c′. Grouped IsPool a′ b′ c′ q → q ≡ p) a b c
 any-order a b c p q ba bb bc t =
     let w = of-three ba t in (
-      λ u. unique w (of-three ba u),
-      λ u. unique (swap-last w) (of-three ba u),
-      λ u. unique (swap-first w) (of-three bb u),
-      λ u. unique (swap-last (swap-first w)) (of-three bb u),
-      λ u. unique (swap-first (swap-last w)) (of-three bc u),
-      λ u. unique (swap-last (swap-first (swap-last w))) (of-three bc u),
+      λ u. unique (w .sums) (of-three ba u .sums),
+      λ u. unique (swap-last w .sums) (of-three ba u .sums),
+      λ u. unique (swap-first w .sums) (of-three bb u .sums),
+      λ u. unique (swap-last (swap-first w) .sums) (of-three bb u .sums),
+      λ u. unique (swap-first (swap-last w) .sums) (of-three bc u .sums),
+      λ u. unique (swap-last (swap-first (swap-last w)) .sums) (of-three bc u .sums),
     )
 
 -- ---- zeros
@@ -134,9 +135,9 @@ module _ {a b : List ℕ} (lines : SameLines a b) (zeros : AllZero b) (i j : ℕ
   zeros-added = ap (added (nodeAt a i j)) (zeros .zeros i j (rw (lines .sameColumns) h) (rw (lines .sameRows) k)) ∙ added-zeros (nodeAt a i j)
 
 pub with-zeros : (a b p : List ℕ) → Bytes a → AllZero b → IsPool a b p → p ≡ a
-with-zeros a b p ba zeros x =
-    same-bytes a p (record { firstAccepted = x .pair .firstAccepted; secondAccepted = x .accepted; lines = x .lines }) ba (x .bytes ba)
-    (λ i j h k. x .nodes i j h k ∙ zeros-added (x .pair .lines) zeros i j h k)
+with-zeros a b p ba zeros x = unique
+    (record { accepted = x .pair .firstAccepted; lines = same-refl; nodes = λ i j h k. refl; bytes = ba })
+    (seen-from same-refl (zeros-added (x .pair .lines) zeros) (of-two ba x))
 
 pub zeros-taken : (a b : List ℕ) → OnSameLines a b → AllZero b → poolRefusal a b (length a) ≡ 0
 unfolding pooledNode

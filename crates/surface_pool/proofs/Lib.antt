@@ -1,4 +1,4 @@
-mod Cells
+pub mod Cells
 mod Sets
 pub mod Levels
 pub mod Examples

@@ -1,7 +1,10 @@
 -- `sheet_pooling::pool_refusal` meets its contract. Assumes nothing.
-use mathlib.Core.Path.{sym, _∙_}
+use denote.Ref.{now}
+use mathlib.Core.Path.{_≡_, sym, _∙_}
+use mathlib.Core.Bool.{Bool, cond}
 use borrow.Author.Needs.{needs}
 use Rattle.sheet_calls.proofs.Chains.{accepts}
+use Rattle.sheet_pool.specs.Pool.{poolRefusal}
 use Rattle.sheet_pool.proofs.Conditions.{sixteen}
 use Rattle.sheet_pooling.proofs.Answers.{first-refused, second-refused, lines-refused, size-refused, sums-answer}
 use Rattle.sheet_pooling.proofs.pool_refusal.Statement.{statement}
@@ -46,23 +49,23 @@ some-sum-out-requires c κs =
       lines = sixteen _ _ .0 (sym (f .before .other-lines .ensures) ∙ f .if3 .left);
     }
 
-returns-5 : tie.Need-returns-5
-returns-5 c =
-    let g = c .before .before in
+-- the sums decide, where nothing before them refuses
+by-sums : (k : tie.After-some-sum-out) {s : Bool} → k .some-sum-out .result ≡ s →
+    let x = k .before .before .before .before .before .before .before .before .before .before .args in
+    cond s 11 0 ≡ poolRefusal (now (x .first)) (now (x .second)) (x .size)
+by-sums k t =
+    let g = k .before in
     let f = g .before in
     let e = f .before .before in
     let d = e .before .before in
     sums-answer _ _ _ (d .before .sheet-refusal .ensures) (d .if1 .left) (e .before .sheet-refusal2 .ensures) (e .if2 .left)
-    (sym (f .before .other-lines .ensures) ∙ f .if3 .left) (g .if4 .left) (sym (c .before .some-sum-out .ensures) ∙ c .if5 .taken)
+    (sym (f .before .other-lines .ensures) ∙ f .if3 .left) (g .if4 .left) (sym (k .some-sum-out .ensures) ∙ t)
+
+returns-5 : tie.Need-returns-5
+returns-5 c = by-sums (c .before) (c .if5 .taken)
 
 returns-6 : tie.Need-returns-6
-returns-6 c =
-    let g = c .before .before in
-    let f = g .before in
-    let e = f .before .before in
-    let d = e .before .before in
-    sums-answer _ _ _ (d .before .sheet-refusal .ensures) (d .if1 .left) (e .before .sheet-refusal2 .ensures) (e .if2 .left)
-    (sym (f .before .other-lines .ensures) ∙ f .if3 .left) (g .if4 .left) (sym (c .before .some-sum-out .ensures) ∙ c .if5 .left)
+returns-6 c = by-sums (c .before) (c .if5 .left)
 
 pub pool-refusal-spec : {M : Type 1} → statement M
 pool-refusal-spec =
