@@ -12,6 +12,7 @@ use Rattle.element_sibson.specs.Element.{+_, −_}
 use Rattle.element_sibson.specs.Cubic.{_≋_}
 use Rattle.element_readings.specs.Reading.{bendXXOf, bendXYOf, bendYYOf, rounded}
 use Rattle.element_readings.proofs.Rounded.{half-unit, rounded-≈}
+use Rattle.sheet_layout.specs.UnevenMesh.{unevenMesh}
 use Rattle.sheet_calls.specs.Refusals.{Accepted}
 use Rattle.sheet_calls.specs.WellFormed.{Inside}
 use Rattle.surface_answers.specs.Answers.{outcome}
@@ -24,7 +25,6 @@ use Rattle.surface_of_sheet.proofs.Places.{place-laws, touch, touched}
 use Rattle.surface_of_sheet.proofs.Touching.{touching as touching-jets}
 use Rattle.surface_bends.specs.Bends.{touchingPlaces, entryPlace, bends, bendsRefusal, Tally, tally}
 use Rattle.surface_bends.specs.BendLaws.{Before, Among}
-use Rattle.surface_bends.specs.UnevenMesh.{unevenMesh}
 use Rattle.surface_of_sheet.specs.Examples.{sevens}
 use Rattle.surface_bends.specs.Examples.{examples as table}
 use Rattle.surface_bends.specs.declared.Listed.{Listed}

@@ -23,7 +23,8 @@ use Rattle.surface_of_sheet.proofs.Answered.{taken-is}
 use Rattle.surface_of_sheet.proofs.Runs.{run-laws}
 use Rattle.surface_of_sheet.proofs.Sizes.{small-level}
 use Rattle.light_sheet_demands.specs.Contracts.{Read, FillRun}
-use Rattle.light_sheet_demands.specs.Pooling.{GivesLevel, OnePixel}
+use Rattle.light_sheet_demands.specs.Demands.{GivesLevel}
+use Rattle.light_sheet_demands.specs.Pooling.{OnePixel}
 use Rattle.light_sheet_demands.proofs.Readings.{no-values, taken, pixel-held}
 use Rattle.light_sheet_demands.proofs.Sizes.{level-of-float}
 
@@ -47,6 +48,10 @@ module _ {s t : List ℕ} {x y : ℕ} {r : Answer} (c : Read s x y 0 r t) where
       let h = pixel-held c n in
       let float : g .float ≡ quotient (positive 64 tt) (level s x y) = ap (λ l. getD l 0 (g .float)) (sym (g .value) ∙ values-are n) in
       level-of-float (level s x y) z (small-level s x y (h .accepted) (h .inside)) (rw float at (g .exact))
+
+  -- a level is given only at a pixel of the mesh
+  pub level-inside : {z : ℤ} → GivesLevel r z → Inside s x y
+  level-inside g = pixel-held c (not-refused (g .value)) .inside
 
   pub gives-level : Accepted s → Inside s x y → (z : ℤ) × GivesLevel r z
   gives-level a i =

@@ -16,6 +16,7 @@ use Rattle.sheet_pool.specs.PoolLaws.{IsPool, Grouped}
 use Rattle.sheet_pool.proofs.Laws.{pool-laws}
 use Rattle.surface_of_sheet.specs.Place.{cellOf}
 use Rattle.surface_of_sheet.specs.Steep.{steep}
+use Rattle.surface_of_sheet.proofs.SameCells.{same-cells}
 use Rattle.surface_pool.proofs.Cells.{pool-cells}
 use Rattle.surface_pool.proofs.Levels.{pool-surface}
 use Rattle.surface_pool.proofs.Examples.{examples}
@@ -33,7 +34,7 @@ pool-of-two : {a b p : List ℕ} → Pooled a b p → PoolOfTwo a b p
 unfolding added
 pool-of-two {a} {b} {p} c =
     let x = is-pool c in
-    let to-b = pool-surface .same a b (x .pair) in
+    let to-b = same-cells (x .pair) in
     let to-p = pool-cells x in
     let sets = pool-surface .sets a b p x in
     record {

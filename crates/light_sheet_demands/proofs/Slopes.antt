@@ -15,10 +15,11 @@ use Rattle.sheet_layout.specs.Format.{columns, rows, lineX, lineY, nodeAt, heig
 use Rattle.sheet_calls.specs.Refusals.{Accepted}
 use Rattle.sheet_calls.specs.WellFormed.{Rising, WellFormed}
 use Rattle.sheet_calls.proofs.WellFormed.{accepted-laws}
-use Rattle.sheet_slopes.specs.Slopes.{previous, next, rise, distance, SameHeights, slopeAlong, filledX, filledY, slopeRefusal, withSlopes}
+use Rattle.sheet_layout.specs.Neighbours.{previous, next}
+use Rattle.sheet_layout.proofs.NeighbourLaws.{neighbour-laws, last-is}
+use Rattle.sheet_slopes.specs.Slopes.{rise, distance, SameHeights, slopeAlong, filledX, filledY, slopeRefusal, withSlopes}
 use Rattle.sheet_slopes.specs.SlopeLaws.{Filled}
 use Rattle.sheet_slopes.proofs.Chain.{slope-held}
-use Rattle.sheet_slopes.proofs.Neighbours.{neighbour-laws, last-is}
 use Rattle.sheet_slopes.proofs.Same.{same-self}
 use Rattle.sheet_slopes.proofs.Laws.{slope-laws}
 use Rattle.surface_answers.specs.Answers.{outcome, answered}

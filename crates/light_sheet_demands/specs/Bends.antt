@@ -12,6 +12,7 @@ use Rattle.element_sibson.specs.Cubic.{_≋_}
 use Rattle.element_sibson.specs.Piece.{number}
 use Rattle.element_readings.specs.Reading.{rounded, _withinℚ_}
 use Rattle.sheet_layout.specs.Format.{columns, rows, lineX, lineY}
+use Rattle.sheet_layout.specs.UnevenMesh.{unevenMesh}
 use Rattle.sheet_calls.specs.Refusals.{Accepted}
 use Rattle.sheet_calls.specs.WellFormed.{Inside}
 use Rattle.surface_answers.specs.Answers.{outcome}
@@ -20,7 +21,6 @@ use Rattle.surface_of_sheet.specs.Place.{HasCell, Place, pointAt, columnsAt, ro
 use Rattle.surface_of_sheet.specs.Touching.{Touches, CellLaws, PlaceLaws}
 use Rattle.surface_bends.specs.Bends.{entryPlace, bends, tooFew, tally}
 use Rattle.surface_bends.specs.BendLaws.{Before}
-use Rattle.surface_bends.specs.UnevenMesh.{unevenMesh}
 use Rattle.surface_bends.specs.declared.Listed.{Listed}
 use Rattle.surface_bends.specs.declared.Listed.the-variants.{Pieces, Refused}
 use Rattle.light_sheet_demands.specs.Contracts.{Read, ListBends, BendsInto}

@@ -219,6 +219,12 @@ pub record Lossless (d : Positive) (v : Float) : Type 0 where
   pub exact : v is whole number ÷ d
   pub zero : number ≡ pos 0 → v ≡ fin false 0 (pos 0)
 
+-- the reading gives a level of z grains: its one value is the float that is exactly z / 64
+pub record GivesLevel (r : Answer) (z : ℤ) : Type 0 where
+  pub float : Float
+  pub value : outcome r .values ≡ float ∷ []
+  pub exact : float is whole z ÷ positive 64 tt
+
 -- strictly between −2²⁰ and 2²⁰
 abbrev pub LevelSized : ℤ → Type 0
 LevelSized z = (negℤ (pos (2 ^ 20)) <ℤ z) × (z <ℤ pos (2 ^ 20))

@@ -5,11 +5,10 @@ use mathlib.Core.Path.{_≡_}
 use mathlib.Core.Logic.{_↔_}
 use mathlib.Core.List.{List, [], _∷_}
 use mathlib.Core.Bool.{false}
-use lib.Ieee.{Float}
 use lib.IntN.{ℤ, pos, _+ℤ_, _-ℤ_}
 use lib.ListN.{length, getD}
 use Rattle.integers.specs.Within.{_within_}
-use Rattle.element_sibson.specs.Fraction.{positive, _≈_, _+ℚ_, _÷_, whole}
+use Rattle.element_sibson.specs.Fraction.{_≈_, _+ℚ_}
 use Rattle.element_sibson.specs.Cubic.{Point, Bend, bend, _≋_}
 use Rattle.element_sibson.specs.Piece.{Piece}
 use Rattle.element_sums.specs.Sums.{_+ⱼ_, SumOf}
@@ -20,14 +19,12 @@ use Rattle.sheet_calls.specs.Refusals.{Accepted}
 use Rattle.sheet_calls.specs.WellFormed.{Inside}
 use Rattle.sheet_pool.specs.Pool.{secondRefused, otherLines, otherTarget, someSumOut}
 use Rattle.sheet_pool.specs.PoolLaws.{Grouped, InAnyOrder, AllZero}
-use Rattle.surface_answers.specs.Answers.{outcome}
-use Rattle.surface_answers.specs.AnswerLaws.{_is_}
 use Rattle.surface_answers.specs.declared.Answer.{Answer}
 use Rattle.surface_of_sheet.specs.Place.{cellOf, HasCell, place}
 use Rattle.surface_of_sheet.specs.Surface.{setOf}
 use Rattle.surface_of_sheet.specs.Steep.{steep}
 use Rattle.light_sheet_demands.specs.Contracts.{Pool, Read, FillRun}
-use Rattle.light_sheet_demands.specs.Demands.{nodeStart, cellJet}
+use Rattle.light_sheet_demands.specs.Demands.{nodeStart, cellJet, GivesLevel}
 
 -- ---- the words
 
@@ -47,12 +44,6 @@ pub record SumsInRange (a b : List ℕ) : Type 0 where
 -- the second derivatives of the cubic on a piece of the cell in column i and row j, at a point
 abbrev pub cellBend : List ℕ → ℕ → ℕ → Piece → Point → Bend
 cellBend s i j k P = bend (cellOf s i j) (setOf s i j k) P
-
--- the reading gives a level of z grains: its one value is the float that is exactly z / 64
-pub record GivesLevel (r : Answer) (z : ℤ) : Type 0 where
-  pub float : Float
-  pub value : outcome r .values ≡ float ∷ []
-  pub exact : float is whole z ÷ positive 64 tt
 
 -- every run of the one pixel (x, y) is taken, and leaves z there
 pub record OnePixel (s : List ℕ) (x y : ℕ) (z : ℤ) : Type 0 where

@@ -1,4 +1,4 @@
-// The program of 01: reads a sheet from standard input, at most 25,619 bytes, and prints a line for each of its pixels, or the number that refuses it.
+// The program `levels` of 01: reads a sheet from standard input, at most 25,619 bytes, and prints a line for each of its pixels, or the number that refuses it.
 // No contract speaks of what is read and written. Which text comes next, and that the texts are all that is to be printed, is proved in `program_listing`.
 use libc::STDIN_FILENO;
 use libc::STDOUT_FILENO;

@@ -1,4 +1,4 @@
--- What the program prints for 01's sheet A, and for a sheet that is refused, computed on the definitions. Assumes nothing.
+-- What the program `levels` prints for 01's sheet A, and for a sheet that is refused, computed on the definitions. Assumes nothing.
 use Prim.Native.Nat.{ℕ}
 use mathlib.Core.Path.{_≡_}
 use mathlib.Core.List.{List, [], _∷_, _++_}

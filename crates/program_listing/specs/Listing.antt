@@ -1,8 +1,9 @@
--- What 01's program prints for the bytes that it has read, and the texts that it is made of, which are printed one after the other. Assumes nothing.
+-- What 01's program `levels` prints for the bytes that it has read, and the texts that it is made of, which are printed one after the other. Assumes nothing.
 use Prim.Native.Nat.{ℕ, zero, suc, _+_, _-_, _*_, _≤_}
-use mathlib.Core.List.{List, [], _++_}
+use mathlib.Core.List.{List, [], _∷_, _++_}
 use mathlib.Core.Bool.{cond}
 use lib.Dec.{eqb, ltb}
+use lib.IntN.{pos}
 use Rattle.sheet_layout.specs.Format.{columns, rows, lineX, lineY}
 use Rattle.sheet_calls.specs.Refusals.{Accepted, sheetRefusal}
 use Rattle.surface_of_sheet.specs.Surface.{level, tiltX, tiltY}
@@ -36,9 +37,9 @@ pub record OnRow (s : List ℕ) (y : ℕ) : Type 0 where
   pub top : firstY s ≤ y
   pub bottom : y ≤ lastY s
 
--- a pixel's line
+-- a pixel's line: x, y, level, tilt x, tilt y
 unfoldable pub pixelLine : List ℕ → ℕ → ℕ → List ℕ
-pixelLine s x y = line x y (level s x y) (tiltX s x y) (tiltY s x y)
+pixelLine s x y = line (pos x ∷ pos y ∷ level s x y ∷ tiltX s x y ∷ tiltY s x y ∷ [])
 
 -- the lines of a row's pixels, from the left
 unfoldable pub rowText : List ℕ → ℕ → List ℕ

@@ -1,4 +1,4 @@
-// The texts that the program prints one after the other: the rows of an accepted sheet, or the line of a refusal.
+// The texts that the program `levels` prints one after the other: the rows of an accepted sheet, or the line of a refusal.
 pub mod theorems;
 
 ghost use mathlib.Core.Path.{_≡_};
@@ -68,7 +68,8 @@ fn pixel_line(sheet: &[u8], x: u32, y: u32, out: &mut [u8], at: usize) -> usize
     ensures text { λ r. ⌜ now (out .exit) ≡ replaced (now (out .entry)) at (pixelLine (now (sheet .entry)) x y) ⌝ }
 {
     let reading = surface_pixels::level_and_tilt(sheet, x, y);
-    program_text::line(out, at, x, y, reading[0], reading[1], reading[2])
+    let numbers = [x as i64, y as i64, reading[0], reading[1], reading[2]];
+    program_text::line(out, at, &numbers)
 }
 
 // The last lines of the mesh: the last pixel of a row, the last row.

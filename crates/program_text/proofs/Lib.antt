@@ -1,4 +1,5 @@
 pub mod Digits
+pub mod Fields
 pub mod Lengths
 pub mod Signs
 pub mod Written

@@ -1,4 +1,4 @@
--- Numbers in decimal as ASCII text, and the two kinds of lines that 01's program prints (01, "Readings"). Assumes nothing.
+-- Numbers in decimal as ASCII text, and the two kinds of lines that the programs print (01, "Readings"). Assumes nothing.
 use Prim.Native.Nat.{ℕ, zero, suc, _+_, _/_, _%_}
 use mathlib.Core.List.{List, [], _∷_, _++_}
 use mathlib.Core.Bool.{cond}
@@ -42,9 +42,11 @@ decimal (negsuc n) = minus ∷ natural (suc n)
 unfoldable pub field : ℤ → ℕ → List ℕ
 field z behind = decimal z ++ behind ∷ []
 
--- a pixel's line: x, y, level, tilt x, tilt y, decimal, one blank between
-unfoldable pub line : ℕ → ℕ → ℤ → ℤ → ℤ → List ℕ
-line x y level tiltX tiltY = field (pos x) blank ++ field (pos y) blank ++ field level blank ++ field tiltX blank ++ field tiltY newline
+-- a line of numbers, decimal, one blank between
+unfoldable pub line : List ℤ → List ℕ
+line [] = newline ∷ []
+line (z ∷ []) = field z newline
+line (z ∷ w ∷ zs) = field z blank ++ line (w ∷ zs)
 
 -- "refused" and a blank
 abbrev pub refusedWord : List ℕ

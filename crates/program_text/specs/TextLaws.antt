@@ -33,5 +33,5 @@ pub record TextLaws : Type 0 where
   pub largest : decimal (pos 18446744073709551615) ≡ 49 ∷ 56 ∷ 52 ∷ 52 ∷ 54 ∷ 55 ∷ 52 ∷ 52 ∷ 48 ∷ 55 ∷ 51 ∷ 55 ∷ 48 ∷ 57 ∷ 53 ∷ 53 ∷ 49 ∷ 54 ∷ 49 ∷ 53 ∷ []
   pub least : decimal (negsuc 9223372036854775807) ≡ 45 ∷ 57 ∷ 50 ∷ 50 ∷ 51 ∷ 51 ∷ 55 ∷ 50 ∷ 48 ∷ 51 ∷ 54 ∷ 56 ∷ 53 ∷ 52 ∷ 55 ∷ 55 ∷ 53 ∷ 56 ∷ 48 ∷ 56 ∷ []
   -- "1 0 32 -48 0" and "refused 5", each with the end of its line
-  pub pixel : line 1 0 (pos 32) (negsuc 47) (pos 0) ≡ 49 ∷ 32 ∷ 48 ∷ 32 ∷ 51 ∷ 50 ∷ 32 ∷ 45 ∷ 52 ∷ 56 ∷ 32 ∷ 48 ∷ 10 ∷ []
+  pub pixel : line (pos 1 ∷ pos 0 ∷ pos 32 ∷ negsuc 47 ∷ pos 0 ∷ []) ≡ 49 ∷ 32 ∷ 48 ∷ 32 ∷ 51 ∷ 50 ∷ 32 ∷ 45 ∷ 52 ∷ 56 ∷ 32 ∷ 48 ∷ 10 ∷ []
   pub refusal : refusedLine 5 ≡ 114 ∷ 101 ∷ 102 ∷ 117 ∷ 115 ∷ 101 ∷ 100 ∷ 32 ∷ 53 ∷ 10 ∷ []

@@ -11,25 +11,20 @@ const BLANK: u8 = 32;
 
 const NEWLINE: u8 = 10;
 
-// A pixel's line from index `at` on.
-pub fn line(
-    out: &mut [u8],
-    at: usize,
-    x: u32,
-    y: u32,
-    level: i64,
-    tilt_x: i64,
-    tilt_y: i64,
-) -> usize
-    requires { ⌜ at + length (line x y level «tilt_x» «tilt_y») ≤ length (now out) ⌝ }
-    ensures end { λ r. ⌜ r ≡ at + length (line x y level «tilt_x» «tilt_y») ⌝ }
-    ensures text { λ r. ⌜ now (out .exit) ≡ replaced (now (out .entry)) at (line x y level «tilt_x» «tilt_y») ⌝ }
+// A line of numbers from index `at` on.
+pub fn line(out: &mut [u8], at: usize, numbers: &[i64]) -> usize
+    requires { ⌜ (1 ≤ length (now numbers)) × (at + length (line (now numbers)) ≤ length (now out)) ⌝ }
+    ensures end { λ r. ⌜ r ≡ at + length (line (now (numbers .entry))) ⌝ }
+    ensures text { λ r. ⌜ now (out .exit) ≡ replaced (now (out .entry)) at (line (now (numbers .entry))) ⌝ }
 {
-    let after_x = field(out, at, x as i64, BLANK);
-    let after_y = field(out, after_x, y as i64, BLANK);
-    let after_level = field(out, after_y, level, BLANK);
-    let after_tilt_x = field(out, after_level, tilt_x, BLANK);
-    field(out, after_tilt_x, tilt_y, NEWLINE)
+    let last = numbers.len() - 1;
+    let mut end = at;
+    let mut k: usize = 0;
+    while k < last {
+        end = field(out, end, numbers[k], BLANK);
+        k += 1;
+    }
+    field(out, end, numbers[last], NEWLINE)
 }
 
 // A refusal's line, from the start.

@@ -1,7 +1,9 @@
 pub mod Ranges
+pub mod Rising
 pub mod Conditions
 pub mod Rules
 pub mod Chains
+pub mod Cut
 pub mod WellFormed
 pub mod StaysWellFormed
 pub mod Lookup

@@ -10,6 +10,7 @@ use Rattle.sheet_calls.specs.Refusals.{Accepted}
 use Rattle.sheet_calls.specs.WellFormed.{WellFormed, AcceptedLaws}
 use Rattle.sheet_calls.proofs.Conditions.{condition-laws}
 use Rattle.sheet_calls.proofs.Chains.{accepted-is, check-is}
+use Rattle.sheet_calls.proofs.Cut.{cut-refusal}
 
 sound : (s : List ℕ) → Accepted s → WellFormed s
 sound s a =
@@ -46,7 +47,7 @@ longest : (s : List ℕ) → Accepted s → length s ≤ 25618
 longest s a = let w = sound s a in omega (arith, w .whole, w .manyColumns, w .manyRows, mul-le-mul (w .manyColumns) (w .manyRows))
 
 pub accepted-laws : AcceptedLaws
-accepted-laws = record { unrefused = accepted-is; checked = λ s. rw (check-is s) (accepted-is s); sound = sound; complete = complete; longest = longest }
+accepted-laws = record { unrefused = accepted-is; checked = λ s. rw (check-is s) (accepted-is s); sound = sound; complete = complete; longest = longest; cut = cut-refusal }
 
 -- so its header, its lines and its nodes can be read
 pub header-there : (s : List ℕ) → Accepted s → headerSize ≤ length s

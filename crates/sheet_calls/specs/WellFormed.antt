@@ -4,7 +4,7 @@ use mathlib.Core.Path.{_≡_}
 use mathlib.Core.Logic.{_↔_}
 use mathlib.Core.List.{List}
 use mathlib.Core.Bool.{false}
-use lib.ListN.{length, getD}
+use lib.ListN.{length, getD, take}
 use Rattle.integers.specs.Within.{_within_}
 use Rattle.sheet_words.specs.Word.{byteAt, signed}
 use Rattle.sheet_layout.specs.Format.{version, columns, rows, lineX, lineY, Node, nodeAt}
@@ -77,10 +77,12 @@ pub record WellFormed (s : List ℕ) : Type 0 where
   pub risingY : Rising (lineY s) (rows s)
   pub ranges : (i j : ℕ) → i < columns s → j < rows s → InRange (nodeAt s i j)
 
--- the accepted sheets are those, and those that no call refuses by 1 to 6; none has more than 25,618 bytes
+-- the accepted sheets are those, and those that no call refuses by 1 to 6; none has more than 25,618 bytes, and what stands behind one byte more changes no
+-- refusal
 pub record AcceptedLaws : Type 0 where
   pub unrefused : (s : List ℕ) → (sheetRefusal s ≡ 0) ↔ Accepted s
   pub checked : (s : List ℕ) → (checkRefusal s ≡ 0) ↔ Accepted s
   pub sound : (s : List ℕ) → Accepted s → WellFormed s
   pub complete : (s : List ℕ) → WellFormed s → Accepted s
   pub longest : (s : List ℕ) → Accepted s → length s ≤ 25618
+  pub cut : (s : List ℕ) (n : ℕ) → 25618 < n → sheetRefusal (take n s) ≡ sheetRefusal s

@@ -10,4 +10,5 @@ pub mod Offsets
 pub mod SameFront
 pub mod SameLines
 pub mod Written
+pub mod NeighbourLaws
 mod Examples

@@ -12,7 +12,7 @@ use Rattle.sheet_calls.specs.WellFormed.{InRange}
 use Rattle.sheet_calls.proofs.Rules.{orElse}
 use Rattle.sheet_calls.proofs.Chains.{sheet-append, cond-zero, not-given, behind-sheet, sheet-taken}
 use Rattle.sheet_pool.specs.Pool.{pooledNode, pooled, secondRefused, otherLines, otherTarget, someSumOut, poolRules, poolRefusal, withPool}
-use Rattle.sheet_pool.specs.PoolLaws.{OnSameLines}
+use Rattle.sheet_calls.specs.OnSameLines.{OnSameLines}
 use Rattle.sheet_pool.proofs.Conditions.{fifteen, sixteen, seventeen, eleven}
 
 pub pool-is : (a b : List ℕ) (n : ℕ) → poolRefusal a b n

@@ -12,7 +12,8 @@ use Rattle.sheet_layout.proofs.SameLines.{same-refl, same-sym, same-trans}
 use Rattle.sheet_calls.specs.Refusals.{Accepted}
 use Rattle.sheet_calls.proofs.WellFormed.{accepted-laws}
 use Rattle.sheet_pool.specs.Pool.{added, pooledNode, poolRefusal}
-use Rattle.sheet_pool.specs.PoolLaws.{OnSameLines, IsPool, FirstTwo, LastTwo, Grouped, InAnyOrder, AllZero}
+use Rattle.sheet_calls.specs.OnSameLines.{OnSameLines}
+use Rattle.sheet_pool.specs.PoolLaws.{IsPool, FirstTwo, LastTwo, Grouped, InAnyOrder, AllZero}
 use Rattle.sheet_pool.proofs.Chain.{pool-taken}
 use Rattle.sheet_pool.proofs.Pooled.{pools}
 use Rattle.sheet_pool.proofs.SameBytes.{same-bytes}

@@ -15,7 +15,7 @@ use Rattle.sheet_layout.specs.SameLines.{SameLines}
 use Rattle.sheet_calls.specs.WellFormed.{WellFormed}
 use Rattle.sheet_calls.proofs.WellFormed.{accepted-laws}
 use Rattle.sheet_assembly.proofs.Assembled.{assembly-laws, same-assembled}
-use Rattle.sheet_pool.specs.PoolLaws.{OnSameLines}
+use Rattle.sheet_calls.specs.OnSameLines.{OnSameLines}
 
 -- ---- the header and the lines
 

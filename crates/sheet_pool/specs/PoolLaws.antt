@@ -11,13 +11,8 @@ use Rattle.sheet_layout.specs.Format.{columns, rows, node, nodesOffset, nodeAt}
 use Rattle.sheet_layout.specs.SameLines.{SameLines}
 use Rattle.sheet_calls.specs.Refusals.{Accepted}
 use Rattle.sheet_calls.specs.WellFormed.{InRange}
+use Rattle.sheet_calls.specs.OnSameLines.{OnSameLines}
 use Rattle.sheet_pool.specs.Pool.{added, pooledNode, secondRefused, otherLines, otherTarget, someSumOut, poolRules, poolRefusal, withPool}
-
--- two accepted sheets on the same lines
-pub record OnSameLines (a b : List ℕ) : Type 0 where
-  pub firstAccepted : Accepted a
-  pub secondAccepted : Accepted b
-  pub lines : SameLines a b
 
 -- what is shown of the pool p of a and b
 pub record IsPool (a b p : List ℕ) : Type 0 where

@@ -18,8 +18,10 @@ use Rattle.sheet_layout.specs.Format.{columns, rows, lineX, lineY, nodeAt, grai
 use Rattle.sheet_calls.specs.Refusals.{Accepted}
 use Rattle.sheet_calls.specs.WellFormed.{Rising}
 use Rattle.sheet_calls.proofs.WellFormed.{accepted-laws}
-use Rattle.sheet_slopes.specs.Slopes.{previous, next, rise, distance, slopeAlong, filledX, filledY, slopeRefusal}
-use Rattle.sheet_slopes.proofs.Neighbours.{previous-≤, next-<, lines-apart, distance-above}
+use Rattle.sheet_layout.specs.Neighbours.{previous, next}
+use Rattle.sheet_layout.proofs.NeighbourLaws.{previous-≤, next-<}
+use Rattle.sheet_slopes.specs.Slopes.{rise, distance, slopeAlong, filledX, filledY, slopeRefusal}
+use Rattle.sheet_slopes.proofs.Neighbours.{lines-apart, distance-above}
 use Rattle.sheet_slopes.proofs.Conditions.{thirteen}
 use Rattle.sheet_slopes.proofs.Chain.{slope-taken}
 

@@ -9,9 +9,10 @@ use Rattle.sheet_layout.proofs.Gathered.{some-cong}
 use Rattle.sheet_layout.proofs.SameFront.{SameFront, same-columns, same-rows, same-lineX, same-lineY, same-offset}
 use Rattle.sheet_calls.proofs.Conditions.{condition-laws}
 use Rattle.sheet_calls.proofs.StaysWellFormed.{same-rising}
-use Rattle.sheet_slopes.specs.Slopes.{previous, rise, distance, slopeAlong, filledX, filledY, tooSteep, someTooSteep, SameHeights}
+use Rattle.sheet_layout.specs.Neighbours.{previous}
+use Rattle.sheet_layout.proofs.NeighbourLaws.{previous-≤, next-<}
+use Rattle.sheet_slopes.specs.Slopes.{rise, distance, slopeAlong, filledX, filledY, tooSteep, someTooSteep, SameHeights}
 use Rattle.sheet_slopes.specs.InPlace.{Fillable}
-use Rattle.sheet_slopes.proofs.Neighbours.{previous-≤, next-<}
 
 -- ---- on an axis
 

@@ -1,4 +1,4 @@
--- Slopes from heights: which nodes are neighbours, what the conditions say, what filling leaves, and how slopes follow heights. Assumes nothing.
+-- Slopes from heights: what the conditions say, what filling leaves, and how slopes follow heights. Assumes nothing.
 use Prim.Native.Nat.{ℕ, suc, _+_, _-_, _≤_, _<_}
 use mathlib.Core.Path.{_≡_}
 use mathlib.Core.Logic.{_↔_}
@@ -12,15 +12,8 @@ use Rattle.sheet_layout.specs.Format.{columns, rows, lineX, lineY, node, height
 use Rattle.sheet_layout.specs.SameLines.{SameLines}
 use Rattle.sheet_calls.specs.Refusals.{Accepted}
 use Rattle.sheet_calls.specs.WellFormed.{Rising}
-use Rattle.sheet_slopes.specs.Slopes.{SameHeights, previous, next, rise, distance, slopeAlong, filledX, filledY, tooStiff, someTooSteep, slopeRules, slopeRefusal, withSlopes}
+use Rattle.sheet_slopes.specs.Slopes.{SameHeights, rise, distance, slopeAlong, filledX, filledY, tooStiff, someTooSteep, slopeRules, slopeRefusal, withSlopes}
 use Rattle.sheet_slopes.specs.InPlace.{rowsFilled}
-
--- an inner node has the one before and the one after it; an end node stands in for the one that is missing
-pub record NeighbourLaws : Type 0 where
-  pub before : (k : ℕ) → previous (suc k) ≡ k
-  pub after : (n k : ℕ) → suc k < n → next n k ≡ suc k
-  pub first : previous 0 ≡ 0
-  pub last : (k : ℕ) → next (suc k) k ≡ k
 
 -- what filling the slopes of s leaves, r
 pub record Filled (s : List ℕ) (t : ℕ) (r : List ℕ) : Type 0 where

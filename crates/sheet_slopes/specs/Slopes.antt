@@ -1,5 +1,5 @@
 -- Slopes from heights alone (02, #101): the slope that a stiffness gives at each node, when the call is refused, and what it leaves. Assumes nothing.
-use Prim.Native.Nat.{ℕ, zero, suc, _+_, _*_, _-_, _<_}
+use Prim.Native.Nat.{ℕ, _+_, _*_, _-_, _<_}
 use mathlib.Core.Path.{_≡_}
 use mathlib.Core.List.{List, [], _∷_, _++_}
 use mathlib.Core.Bool.{Bool, cond, not, _||_}
@@ -9,21 +9,13 @@ use lib.IntN.{ℤ, pos, natAbs, _-ℤ_, _*ℤ_}
 use Rattle.integers.specs.Round.{round}
 use Rattle.sheet_words.specs.Word.{byteAt}
 use Rattle.sheet_layout.specs.Some.{some}
+use Rattle.sheet_layout.specs.Neighbours.{previous, next}
 use Rattle.sheet_layout.specs.Format.{columns, rows, lineX, lineY, slopeBytes, slopeIn, nodesOffset, nodeOffset, heightBytes, grainsPerStep, heightAt}
 use Rattle.sheet_calls.specs.Rules.{Rule, rule, firstRefusal}
 use Rattle.sheet_calls.specs.Refusals.{sheetRules}
 use Rattle.sheet_assembly.specs.Assembled.{assembled}
 
 -- ---- a slope along an axis: n nodes on n lines, k one of them, t the stiffness
-
--- the node before node k; the first stands in for the one that is missing
-unfoldable pub previous : ℕ → ℕ
-previous zero = zero
-previous (suc k) = k
-
--- the node after it; the last stands in for the one that is missing
-unfoldable pub next : ℕ → ℕ → ℕ
-next n k = cond (ltb (suc k) n) (suc k) k
 
 -- next height − previous height, in grains
 unfoldable pub rise : ℕ → (ℕ → ℤ) → ℕ → ℤ

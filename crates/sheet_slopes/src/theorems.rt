@@ -2,17 +2,11 @@
 ghost use mathlib.Core.Path.{_≡_};
 ghost use Rattle.sheet_calls.specs.Rules.{RuleLaws};
 ghost use Rattle.sheet_slopes.specs.Slopes.{SlopeInput};
-ghost use Rattle.sheet_slopes.specs.SlopeLaws.{NeighbourLaws, SlopeLaws};
+ghost use Rattle.sheet_slopes.specs.SlopeLaws.{SlopeLaws};
 ghost use Rattle.sheet_slopes.specs.Examples.{Examples};
 
 pub fn rule_laws() -> u64
     ensures { λ r. ⌜ (r ≡ 0) × RuleLaws SlopeInput ⌝ }
-{
-    0
-}
-
-pub fn neighbour_laws() -> u64
-    ensures { λ r. ⌜ (r ≡ 0) × NeighbourLaws ⌝ }
 {
     0
 }

@@ -15,7 +15,8 @@ use Rattle.integers.proofs.Bounds.{is-within}
 use Rattle.integers.proofs.Operand.{Operand, literal, unsigned, unchanged, _⊠_}
 use Rattle.sheet_layout.specs.Format.{lineFrom, grainsPerStep}
 use Rattle.sheet_calls.specs.WellFormed.{Rising}
-use Rattle.sheet_slopes.specs.Slopes.{previous, next, distance}
+use Rattle.sheet_layout.specs.Neighbours.{previous, next}
+use Rattle.sheet_slopes.specs.Slopes.{distance}
 use Rattle.sheet_slopes.proofs.Neighbours.{lines-apart, lines-near}
 
 module _ (line : ℕ → ℕ) (n k : ℕ) (r : Rising line n) (two : 2 ≤ n) (l : k < n) where

@@ -7,7 +7,8 @@ use mir.Syntax.{w64}
 use mir.Val.{toZ, ofZ, hbits}
 use Rattle.integers.specs.Within.{_within_}
 use Rattle.integers.proofs.Operand.{known, read-within, unchanged}
-use Rattle.sheet_slopes.specs.Slopes.{previous, next, rise}
+use Rattle.sheet_layout.specs.Neighbours.{previous, next}
+use Rattle.sheet_slopes.specs.Slopes.{rise}
 
 -- what the code hands on
 pub heights-on : {t : ℕ} {a b : ℤ} → t ≤ 64 → a within (2 ^ 21) → b within (2 ^ 21)

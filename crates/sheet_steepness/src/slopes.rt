@@ -7,7 +7,7 @@ ghost use Rattle.integers.specs.Within.{_within_};
 ghost use Rattle.integers.specs.Ratio.{Denominates};
 ghost use Rattle.sheet_layout.specs.Format.{columns, rows, lineFrom, lineX, lineY, statedSize, grainsPerStep, heightAt};
 ghost use Rattle.sheet_calls.specs.WellFormed.{Rising};
-ghost use Rattle.sheet_slopes.specs.Slopes.{previous, next, rise, distance, filledX, filledY};
+ghost use Rattle.sheet_slopes.specs.Slopes.{rise, distance, filledX, filledY};
 ghost use Rattle.sheet_slopes.specs.InPlace.{Fillable};
 use integers::round;
 use sheet_layout::X_LINES_OFFSET;
@@ -15,6 +15,8 @@ use sheet_layout::header::columns;
 use sheet_layout::header::rows;
 use sheet_layout::height;
 use sheet_layout::line_from;
+use sheet_layout::neighbours::next;
+use sheet_layout::neighbours::previous;
 use sheet_layout::y_lines_offset;
 
 // The slope along x at a node.
@@ -84,18 +86,4 @@ fn divisor(sheet: &[u8], start: usize, lines: usize, k: usize) -> i64
     let after = line_from(sheet, start, next(lines, k));
     let before = line_from(sheet, start, previous(k));
     64 * (after - before) as i64
-}
-
-// The node before the one at `k` of an axis, the first itself; and the node after it of `count`, the last itself.
-fn previous(k: usize) -> usize
-    ensures { λ r. ⌜ r ≡ previous k ⌝ }
-{
-    if k == 0 { 0 } else { k - 1 }
-}
-
-fn next(count: usize, k: usize) -> usize
-    requires { ⌜ k < count ⌝ }
-    ensures { λ r. ⌜ r ≡ next count k ⌝ }
-{
-    if k + 1 < count { k + 1 } else { k }
 }

@@ -20,7 +20,7 @@ use Rattle.sheet_calls.proofs.WellFormed.{accepted-laws, lines-there}
 use Rattle.sheet_assembly.specs.Assembled.{inOrder, assembled}
 use Rattle.sheet_assembly.proofs.InOrder.{in-order-same, in-order-rows}
 use Rattle.sheet_pool.specs.Pool.{added, pooledNode, pooled, someSumOut}
-use Rattle.sheet_pool.specs.PoolLaws.{OnSameLines}
+use Rattle.sheet_calls.specs.OnSameLines.{OnSameLines}
 use Rattle.sheet_sums.specs.Sums.{sumAt, sumBytes, Ranged}
 
 -- ---- in range

@@ -9,7 +9,7 @@ ghost use Rattle.sheet_layout.specs.Some.{some};
 ghost use Rattle.sheet_layout.specs.Format.{steepest, slopeIn};
 ghost use Rattle.sheet_assembly.specs.Assembled.{inOrder};
 ghost use Rattle.sheet_pool.specs.Pool.{someSumOut};
-ghost use Rattle.sheet_pool.specs.PoolLaws.{OnSameLines};
+ghost use Rattle.sheet_calls.specs.OnSameLines.{OnSameLines};
 ghost use Rattle.sheet_sums.specs.Sums.{sumAt, sumBytes, Ranged, withSums};
 use sheet_layout::node_count;
 use sheet_layout::nodes_offset;

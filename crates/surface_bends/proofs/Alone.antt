@@ -11,7 +11,6 @@ use Rattle.element_sibson.specs.Cubic.{Point}
 use Rattle.element_sibson.specs.Piece.{Piece, top, right, bottom, left, triangle, InCell, HalfDiagonal}
 use Rattle.element_sibson.specs.Sense.{same, with-next, with-previous, at-centre}
 use Rattle.element_sibson.proofs.Covers.{covering}
-use Rattle.element_readings.proofs.Bounds.{bounds}
 use Rattle.sheet_layout.specs.Format.{columns, rows, lineX, lineY}
 use Rattle.sheet_calls.specs.Refusals.{Accepted}
 use Rattle.sheet_calls.specs.WellFormed.{Inside}
@@ -19,7 +18,7 @@ use Rattle.surface_of_sheet.specs.Place.{cellOf, pointAt, columnsAt, rowsAt, co
 use Rattle.surface_of_sheet.specs.Touching.{Touches}
 use Rattle.surface_of_sheet.proofs.CellsAlong.{cell-laws}
 use Rattle.surface_of_sheet.proofs.Cells.{sound, x-rising, y-rising}
-use Rattle.surface_of_sheet.proofs.Places.{touched, is-seen, in-piece, offset-across, offset-down}
+use Rattle.surface_of_sheet.proofs.Places.{touched, is-seen, in-piece, there, on-piece}
 use Rattle.surface_bends.specs.Bends.{touchingPlaces, entryPlace}
 use Rattle.surface_bends.proofs.Touched.{column-between, row-between}
 use Rattle.surface_bends.proofs.Listing.{only, once}
@@ -55,8 +54,7 @@ module _ (s : List ℕ) (x y : ℕ) (accepted : Accepted s) (inside : Inside s x
   one-row = cell-laws .elsewhere (lineY s) (rows s) y (y-rising s accepted) (sound s accepted .fewRows) (λ k h. offY (suc k) (omega arith))
 
   in-cell : InCell (pointAt s (place s x y))
-  unfolding place
-  in-cell = bounds .pixels (cellOf s (columnAt s x) (rowAt s y)) _ _ (offset-across s accepted x y inside) (offset-down s accepted x y inside) .inCell
+  in-cell = on-piece s accepted (there s accepted x y inside) .inCell
 
   one-seen : {i j : ℕ} {k : Piece} → Touches s (seen s i j k x y) x y → seen s i j k x y ≡ place s x y
   unfolding place columnAt rowAt

@@ -17,9 +17,10 @@ use Rattle.element_sibson.proofs.Covers.{inside}
 use Rattle.sheet_layout.specs.Format.{lineX, lineY}
 use Rattle.sheet_calls.specs.Refusals.{Accepted}
 use Rattle.sheet_calls.specs.WellFormed.{Rising}
+use Rattle.sheet_calls.proofs.Rising.{rise}
 use Rattle.surface_of_sheet.specs.Place.{cellsAlong, pointAt, seen, touches}
 use Rattle.surface_of_sheet.specs.Touching.{Touches}
-use Rattle.surface_of_sheet.proofs.Along.{rise, axis-cell}
+use Rattle.surface_of_sheet.proofs.Along.{axis-cell}
 use Rattle.surface_of_sheet.proofs.CellsAlong.{cell-laws}
 use Rattle.surface_of_sheet.proofs.Cells.{width-back, height-back}
 use Rattle.surface_of_sheet.proofs.EdgePoints.{at-start, at-end}

@@ -6,10 +6,10 @@ use lib.IntN.{ℤ}
 use lib.ListN.{length}
 use Rattle.element_sibson.specs.Piece.{top, right, bottom, left}
 use Rattle.element_sibson.specs.Element.{+_, −_}
+use Rattle.sheet_layout.specs.UnevenMesh.{unevenMesh}
 use Rattle.surface_of_sheet.specs.Place.{seen}
 use Rattle.surface_of_sheet.specs.Examples.{sevens}
 use Rattle.surface_bends.specs.Bends.{touchingPlaces, Tally, counted, withBends}
-use Rattle.surface_bends.specs.UnevenMesh.{unevenMesh}
 
 -- a pixel, a buffer, what the call on it answers, and what it leaves there
 pub record Example : Type 0 where

@@ -1,4 +1,3 @@
 pub mod Bends
 pub mod BendLaws
-pub mod UnevenMesh
 pub mod Examples

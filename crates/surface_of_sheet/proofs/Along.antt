@@ -7,6 +7,7 @@ use native.Mathlib.Decide.{ℕ-discrete, decLt}
 use lib.Dec.{leb, leb→le, nleb→lt}
 use Rattle.integers.proofs.Order.{cond-ind}
 use Rattle.sheet_calls.specs.WellFormed.{Rising}
+use Rattle.sheet_calls.proofs.Rising.{rise}
 use Rattle.surface_of_sheet.specs.Place.{highestAlong}
 
 module _ (line : ℕ → ℕ) (position : ℕ) where
@@ -55,25 +56,17 @@ module _ (line : ℕ → ℕ) (position : ℕ) where
   along-end k h = le-antisymm (along-least k) (along-last k k (omega arith) h)
 
 module _ {line : ℕ → ℕ} {n : ℕ} (r : Rising line n) where
-  -- a later line lies no nearer
-  pub rise : (i k : ℕ) → i ≤ k → k < n → line i ≤ line k
-  rise i zero l m = let same : i ≡ 0 = omega arith in rw same (omega arith)
-  rise i (suc k) l m = elim (ℕ-discrete i (suc k)) [
-    | yes e ↦ rw e (omega arith)
-    | no d ↦ let before = rise i k (omega arith) (omega arith) in let up = r .rises k m in omega arith
-  ]
-
   -- the cell that holds a position, its end not counted
   pub along-in : (position k i : ℕ) → suc k < n → i ≤ k → line i ≤ position → position < line (suc i) → highestAlong line k position ≡ i
   along-in position k i m l starts ends = le-antisymm at-most (along-last line position k i l starts)
     where
       first : line 0 ≤ position
-      first = let up = rise 0 i (omega arith) (omega arith) in omega arith
+      first = let up = rise r 0 i (omega arith) (omega arith) in omega arith
 
       at-most : highestAlong line k position ≤ i
       at-most = let c = highestAlong line k position in let least = along-least line position k in let before = along-starts line position k first in
           elim (decLt i c) [
-            | yes late ↦ absurd (let beyond = rise (suc i) c (omega arith) (omega arith) in omega arith)
+            | yes late ↦ absurd (let beyond = rise r (suc i) c (omega arith) (omega arith) in omega arith)
             | no early ↦ omega arith
           ]
 

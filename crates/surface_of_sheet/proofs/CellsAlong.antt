@@ -7,9 +7,10 @@ use native.Mathlib.Omega.{arith}
 use native.Mathlib.Decide.{ℕ-discrete, decLt}
 use lib.Dec.{ltb}
 use Rattle.sheet_calls.specs.WellFormed.{Rising}
+use Rattle.sheet_calls.proofs.Rising.{rise}
 use Rattle.surface_of_sheet.specs.Place.{highestAlong, lowestAlong, cellsAlong}
 use Rattle.surface_of_sheet.specs.Touching.{CellLaws}
-use Rattle.surface_of_sheet.proofs.Along.{along-step, along-least, along-starts, along-last, along-in, along-end, rise}
+use Rattle.surface_of_sheet.proofs.Along.{along-step, along-least, along-starts, along-last, along-in, along-end}
 
 -- the highest starts at or before the position, unless it is the first
 starts-or-first : (line : ℕ → ℕ) (position k : ℕ) → (highestAlong line k position ≡ 0) ⊎ (line (highestAlong line k position) ≤ position)

@@ -12,3 +12,4 @@ pub mod Sizes
 pub mod EachValue
 pub mod HalfUnits
 pub mod AtNodes
+pub mod SameCells

@@ -9,13 +9,16 @@ use lib.Dec.{T}
 use Rattle.element_sibson.specs.Piece.{triangle, number}
 use Rattle.element_sibson.proofs.Fractions.{fraction-laws}
 use Rattle.element_sibson.proofs.Covers.{covering}
+use Rattle.element_readings.specs.Bounds.{On}
+use Rattle.element_readings.proofs.Bounds.{bounds}
 use Rattle.sheet_layout.specs.Format.{columns, rows, lineX, lineY}
 use Rattle.sheet_calls.specs.Refusals.{Accepted}
 use Rattle.sheet_calls.specs.WellFormed.{Inside}
+use Rattle.sheet_calls.proofs.Rising.{rise}
 use Rattle.sheet_layout.proofs.Meaning.{leb-holds, eqb-holds, and-holds}
 use Rattle.surface_of_sheet.specs.Place.{cellOf, HasCell, Place, pointAt, columnAt, rowAt, place, seen, touches}
 use Rattle.surface_of_sheet.specs.Touching.{Touches, PlaceLaws}
-use Rattle.surface_of_sheet.proofs.Along.{along-starts, along-last, along-in, rise, axis-cell, axis-ends, axis-inside, axis-end}
+use Rattle.surface_of_sheet.proofs.Along.{along-starts, along-last, along-in, axis-cell, axis-ends, axis-inside, axis-end}
 use Rattle.surface_of_sheet.proofs.Cells.{sound, x-rising, y-rising, width-back, height-back}
 
 -- ---- what `touches` says, in facts
@@ -123,6 +126,14 @@ module _ (s : List ℕ) (accepted : Accepted s) where
     inside = let across = axis-inside (x-rising s accepted) x (p .column) (t .has .column) starts-across (t .toRight) in
         let down = axis-inside (y-rising s accepted) y (p .row) (t .has .row) starts-down (t .toBottom) in
         record { left = across .0; right = across .1; top = down .0; bottom = down .1 }
+
+    -- and the place's point on its piece
+    pub on-piece : On (p .piece) (pointAt s p)
+    on-piece = record {
+      inCell = bounds .pixels (cellOf s (p .column) (p .row)) (p .a) (p .b) (omega (arith, width-back s accepted (p .column) (p .row) (t .has), t .across, t .toRight))
+          (omega (arith, height-back s accepted (p .column) (p .row) (t .has), t .down, t .toBottom)) .inCell;
+      inTriangle = t .piece;
+    }
 
     rightmost : p .column ≤ place s x y .column
     unfolding columnAt place

@@ -14,7 +14,6 @@ use Rattle.element_sibson.proofs.Covers.{covering}
 use Rattle.element_sibson.proofs.Unique.{existence}
 use Rattle.element_cell.specs.Cell.{cell}
 use Rattle.element_readings.specs.Reading.{levelOf, tiltXOf, tiltYOf}
-use Rattle.element_readings.proofs.Bounds.{bounds}
 use Rattle.element_readings.proofs.Rounded.{rounded-≈}
 use Rattle.sheet_layout.specs.Format.{columns, rows, lineX, lineY}
 use Rattle.sheet_calls.specs.Refusals.{Accepted}
@@ -25,7 +24,7 @@ use Rattle.surface_of_sheet.proofs.Along.{along-at}
 use Rattle.surface_of_sheet.proofs.Cells.{x-rising, y-rising, width-back, height-back}
 use Rattle.surface_of_sheet.proofs.Sets.{beside, beneath}
 use Rattle.surface_of_sheet.proofs.EdgePoints.{View, from-piece, over-edge, at-end, at-start}
-use Rattle.surface_of_sheet.proofs.Places.{touched, is-seen, there, inside}
+use Rattle.surface_of_sheet.proofs.Places.{touched, is-seen, there, inside, on-piece}
 use Rattle.surface_of_sheet.proofs.Worked.{bends}
 
 -- ---- the places of a pixel
@@ -45,8 +44,7 @@ module _ (s : List ℕ) (accepted : Accepted s) (x y : ℕ) where
     S = setOf s i j;
     smooth = existence .meetsNodes (cellOf s i j) (nodesOf s i j) .smooth;
     P = pointAt s (seen s i j k x y);
-    inCell = bounds .pixels (cellOf s i j) (x - lineX s i) (y - lineY s j) (omega (arith, width-back s accepted i j (t .has), t .toRight))
-        (omega (arith, height-back s accepted i j (t .has), t .toBottom)) .inCell;
+    inCell = on-piece s accepted t .inCell;
     piece = k;
     holds = t .piece;
   }

@@ -4,5 +4,6 @@ pub mod Read
 pub mod Run
 pub mod Theorems
 pub mod Touching
+pub mod SameCells
 pub mod Steep
 pub mod Examples

@@ -2,6 +2,7 @@
 ghost use mathlib.Core.Path.{_≡_};
 ghost use Rattle.surface_of_sheet.specs.Theorems.{TheSet, SharedEdges, ReadLaws, RunLaws, HalfUnits, AtNodes};
 ghost use Rattle.surface_of_sheet.specs.Touching.{CellLaws, PlaceLaws, Touching};
+ghost use Rattle.surface_of_sheet.specs.SameCells.{MeshLaws};
 ghost use Rattle.surface_of_sheet.specs.Examples.{Examples};
 
 pub fn the_set() -> u64
@@ -54,6 +55,12 @@ pub fn place_laws() -> u64
 
 pub fn touching() -> u64
     ensures { λ r. ⌜ (r ≡ 0) × Touching ⌝ }
+{
+    0
+}
+
+pub fn mesh_laws() -> u64
+    ensures { λ r. ⌜ (r ≡ 0) × MeshLaws ⌝ }
 {
     0
 }

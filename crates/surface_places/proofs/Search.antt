@@ -6,8 +6,9 @@ use mathlib.Core.List.{List}
 use native.Mathlib.Omega.{arith}
 use native.Mathlib.Decide.{decLt}
 use Rattle.sheet_layout.specs.Format.{lineFrom}
+use Rattle.sheet_calls.proofs.Rising.{rise}
 use Rattle.surface_of_sheet.specs.Place.{lowestAlong, highestAlong, cellsAlong}
-use Rattle.surface_of_sheet.proofs.Along.{along-starts, along-last, rise, axis-cell, axis-ends}
+use Rattle.surface_of_sheet.proofs.Along.{along-starts, along-last, axis-cell, axis-ends}
 use Rattle.surface_of_sheet.proofs.CellsAlong.{low-below, low-last, cell-laws}
 use Rattle.surface_places.specs.Found.{Axis, Between, CellTouches, cellsOf}
 

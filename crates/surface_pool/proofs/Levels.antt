@@ -16,8 +16,9 @@ use Rattle.sheet_pool.specs.PoolLaws.{IsPool, FirstTwo, LastTwo, Grouped}
 use Rattle.surface_of_sheet.specs.Place.{HasCell, cellAt, pointAt, place}
 use Rattle.surface_of_sheet.specs.Surface.{jetAt, levelAt, level}
 use Rattle.surface_of_sheet.proofs.Places.{has-cell}
+use Rattle.surface_of_sheet.proofs.SameCells.{same-cells}
 use Rattle.surface_pool.specs.PoolSurface.{PoolSurface}
-use Rattle.surface_pool.proofs.Cells.{same-cells, pool-cells}
+use Rattle.surface_pool.proofs.Cells.{pool-cells}
 use Rattle.surface_pool.proofs.Sets.{sets}
 
 regrouped : (x y z : ℚ) → x +ℚ (y +ℚ z) ≈ x +ℚ y +ℚ z
@@ -71,7 +72,6 @@ module _ {a b c p : List ℕ} (x y : ℕ) where
 
 pub pool-surface : PoolSurface
 pool-surface = record {
-  same = λ a b. same-cells;
   sets = λ a b p pool. sets pool;
   jets = λ a b p. jets;
   levels = λ a b p. levels;

@@ -13,7 +13,8 @@ use Rattle.sheet_pool.specs.Pool.{added}
 use Rattle.sheet_pool.specs.PoolLaws.{IsPool}
 use Rattle.surface_of_sheet.specs.Place.{cellOf, HasCell}
 use Rattle.surface_of_sheet.specs.Surface.{nodeNumbers, nodesOf, setOf}
-use Rattle.surface_pool.proofs.Cells.{same-cells, pool-cells}
+use Rattle.surface_of_sheet.proofs.SameCells.{same-cells}
+use Rattle.surface_pool.proofs.Cells.{pool-cells}
 
 module _ {a b p : List ℕ} (pool : IsPool a b p) where
   node-sum : (i j : ℕ) → i < columns a → j < rows a → nodeNumbers p i j ≡ plus (nodeNumbers a i j) (nodeNumbers b i j)

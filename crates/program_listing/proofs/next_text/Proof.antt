@@ -5,22 +5,17 @@ use mathlib.Core.Path.{_≡_, refl, sym, _∙_, ap, subst}
 use mathlib.Core.List.{List}
 use native.Mathlib.Omega.{arith}
 use borrow.Author.Needs.{needs}
-use lib.ListN.{length}
-use Rattle.sheet_words.specs.Word.{replaced}
 use Rattle.sheet_calls.specs.Refusals.{sheetRefusal}
 use Rattle.sheet_calls.proofs.Chains.{accepts}
 use Rattle.sheet_calls.proofs.WellFormed.{lines-there}
 use Rattle.surface_of_sheet.proofs.Cells.{sound, last-y-near}
 use Rattle.program_text.specs.Text.{refusedLine}
 use Rattle.program_text.proofs.Lengths.{refused-length}
+use Rattle.program_text.proofs.Written.{AtStart}
 use Rattle.program_listing.specs.Listing.{OnRow, firstY, rowText, textCount, nextText}
 use Rattle.program_listing.proofs.Texts.{row-there, row-next, line-next, next-none}
 use Rattle.program_listing.proofs.next_text.Statement.{statement}
 use Rattle.program_listing.proofs.next_text.Tie as tie
-
--- t is the buffer with the text b at its start, which has r bytes
-abbrev Result : tie.Start → List ℕ → List ℕ → ℕ → Type 0
-Result s b t r = (r ≡ length b) × (t ≡ replaced (now (s .args .out)) 0 b)
 
 -- the texts are at their end
 returns : tie.Need-returns
@@ -47,7 +42,7 @@ line-is c = let s = start (c .before) in ap refusedLine (s .pre .0) ∙ sym (lin
 
 returns-2 : tie.Need-returns-2
 returns-2 c = let d = c .before .before in let t = d .before .before in
-    subst (λ b. Result (start (t .before)) b (d .refused .last .0) (d .refused .result)) (line-is t) (d .refused .ensures)
+    subst (λ b. AtStart (now (start (t .before) .args .out)) b (d .refused .last .0) (d .refused .result)) (line-is t) (d .refused .ensures)
 
 -- the sheet is accepted
 unrefused : (c : tie.Else2) → sheetRefusal (sheet (c .before)) ≡ 0
@@ -72,7 +67,7 @@ row-is c = let s = start (c .before .before) in
 
 returns-3 : tie.Need-returns-3
 returns-3 c = let d = c .before .before in let y = d .before .before in
-    subst (λ b. Result (start (y .before .before)) b (d .row-text .last .1 .1 .0) (d .row-text .result)) (row-is y) (d .row-text .ensures)
+    subst (λ b. AtStart (now (start (y .before .before) .args .out)) b (d .row-text .last .1 .1 .0) (d .row-text .result)) (row-is y) (d .row-text .ensures)
 
 pub next-text-spec : {M : Type 1} → statement M
 next-text-spec =

@@ -1,13 +1,13 @@
 -- `program_listing::row_text` meets its contract. Assumes nothing.
 use denote.Ref.{now}
 use Prim.Native.Nat.{_+_, _-_, _≤_, _<_}
-use mathlib.Core.Path.{_∙_, subst}
-use native.Mathlib.Nat.{zero-add}
+use mathlib.Core.Path.{subst}
 use native.Mathlib.Omega.{arith}
 use borrow.Author.Needs.{needs}
 use Rattle.sheet_calls.proofs.WellFormed.{lines-there}
 use Rattle.surface_of_sheet.proofs.Cells.{sound, last-x-near}
-use Rattle.program_listing.specs.Listing.{lastX}
+use Rattle.program_text.proofs.Written.{at-start}
+use Rattle.program_listing.specs.Listing.{lastX, rowText}
 use Rattle.program_listing.proofs.Begun.{Begun, on-row, starts, length-kept, line-room, goes-on, done}
 use Rattle.program_listing.proofs.row_text.Statement.{statement}
 use Rattle.program_listing.proofs.row_text.Tie as tie
@@ -43,9 +43,9 @@ same-length : tie.Need-same-length Inv-loop μ-loop
 same-length c = let p = c .before .before .before .before .before .before .pre in length-kept _ _ (p .0) _ (p .1) (c .before .loop .inv)
 
 returns : tie.Need-returns Inv-loop μ-loop
-returns c =
-    let w = done (c .before .loop .inv) (subst (λ n. n < c .before .loop .x) (c .before .before .before .last-column .ensures) (c .loop-test .left)) in
-    (w .0 ∙ zero-add _, w .1)
+returns c = let a = c .before .before .before .before .before .before .args in
+    at-start (now (a .out)) (rowText (now (a .sheet)) (a .y))
+    (done (c .before .loop .inv) (subst (λ n. n < c .before .loop .x) (c .before .before .before .last-column .ensures) (c .loop-test .left)))
 
 pub row-text-spec : {M : Type 1} → statement M
 row-text-spec =

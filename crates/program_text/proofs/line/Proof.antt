@@ -1,122 +1,94 @@
 -- `program_text::line` meets its contract. Assumes nothing.
 use denote.Ref.{now}
-use Prim.Native.Nat.{ℕ, _+_, _≤_}
-use mathlib.Core.Path.{_≡_, subst, subst⁻¹}
-use mathlib.Core.List.{List, _++_}
+use Prim.Native.Nat.{ℕ, suc, _-_, _^_, _≤_, _<_}
+use mathlib.Core.Path.{_≡_, _∙_, ap, subst}
+use mathlib.Core.List.{List}
+use native.Mathlib.Numerals.{add-one}
 use native.Mathlib.Omega.{arith}
 use borrow.Author.Needs.{needs}
+use lib.IntN.{ℤ}
 use lib.ListN.{length}
+use lib.Signed.{mag}
 use mir.Syntax.{w64}
-use Rattle.integers.proofs.Operand.{Operand, any, unsigned}
-use Rattle.program_text.specs.Text.{newline, blank, field, line}
-use Rattle.program_text.proofs.Written.{Written, first-fits, second-fits, both-written}
+use mir.Val.{hbits, toZ, ofZ}
+use Rattle.integers.proofs.Operand.{unchanged}
+use Rattle.sheet_words.proofs.Replaced.{replaced-length}
+use Rattle.program_text.specs.Text.{field}
+use Rattle.program_text.proofs.Fields.{fields, starts, next-room, next-written, last-room, line-written}
+use Rattle.program_text.proofs.Written.{Written}
 use Rattle.program_text.proofs.line.Statement.{statement}
 use Rattle.program_text.proofs.line.Tie as tie
 
-module _ (s : tie.Start) where
-  -- the numbers as they are handed on
-  abbrev x : Operand
-  x = let h : s .args .x ≤ 4294967295 = omega arith in unsigned w64 h tt
+-- the fields of the first k numbers are written
+abbrev Inv-loop : tie.InvT-loop
+Inv-loop out₀ at numbers last end₀ k₀ out end k = (k ≤ last) × Written out₀ at (fields numbers k) out end
 
-  abbrev y : Operand
-  y = let h : s .args .y ≤ 4294967295 = omega arith in unsigned w64 h tt
+abbrev μ-loop : tie.MeasureT-loop
+μ-loop out₀ at numbers last end₀ k₀ out end k = last - k
 
-  abbrev level : Operand
-  level = any w64 (s .fits .level)
+-- a number is handed on as it stands
+module _ (t : List ℕ) (e : ℕ) (z : ℤ) (behind : ℕ) (fits : mag z < 2 ^ hbits w64) {u : List ℕ} {f : ℕ} where
+  handed : Written t e (field (toZ w64 (ofZ w64 z)) behind) u f → Written t e (field z behind) u f
+  handed w = subst (λ z. Written t e (field z behind) u f) (unchanged w64 fits) w
 
-  abbrev tilt-x : Operand
-  tilt-x = any w64 (s .fits .tilt-x)
+-- ---- a turn: the next number, and a blank
 
-  abbrev tilt-y : Operand
-  tilt-y = any w64 (s .fits .tilt-y)
+inside : (c : tie.In-loop Inv-loop μ-loop) → suc (c .before .loop .k) < length (now (c .before .before .before .args .numbers))
+inside c = omega (arith, c .loop-test .taken)
 
-  -- the fields up to each of them
-  abbrev to-x : List ℕ
-  to-x = field (x .read) blank
+field-requires : tie.Need-field-requires Inv-loop μ-loop
+field-requires c κs = let d = c .before .before in let l = d .before .loop in
+    rw (unchanged w64 (c .field-arg2 .given)) (next-room _ _ _ (d .before .before .before .pre .1) (l .k) (l .inv .1) (inside d))
 
-  abbrev to-y : List ℕ
-  to-y = to-x ++ field (y .read) blank
+loop-again : tie.Need-loop-again Inv-loop μ-loop
+loop-again c = let f = c .before .before in let d = f .before .before .before in let l = d .before .loop in (
+  omega (arith, inside d),
+  rw (add-one (l .k)) (next-written _ _ _ (d .before .before .before .pre .1) (l .k) (l .inv .1) (inside d)
+      (handed _ _ _ _ (f .before .field-arg2 .given) (f .field .ensures))),
+)
 
-  abbrev to-level : List ℕ
-  to-level = to-y ++ field (level .read) blank
+-- ---- the last number, and the end of the line
 
-  abbrev to-tilt-x : List ℕ
-  to-tilt-x = to-level ++ field (tilt-x .read) blank
+module _ (c : tie.After-loop Inv-loop μ-loop) where
+  abbrev s : tie.Start Inv-loop μ-loop
+  s = c .before .before .before
 
-  abbrev to-tilt-y : List ℕ
-  to-tilt-y = to-tilt-x ++ field (tilt-y .read) newline
+  abbrev numbers : List ℤ
+  numbers = now (s .args .numbers)
 
-  line-is : to-tilt-y ≡ line (s .args .x) (s .args .y) (s .args .level) (s .args .tilt-x) (s .args .tilt-y)
-  unfolding line
-  line-is = λ t. field (x .reads t) blank ++ field (y .reads t) blank ++ field (level .reads t) blank ++ field (tilt-x .reads t) blank ++ field (tilt-y .reads t) newline
+  ends : suc (length numbers - 1) ≡ length numbers
+  ends = omega (arith, s .pre .0)
 
-  -- room for them
-  abbrev Room : List ℕ → Type 0
-  Room b = s .args .at + length b ≤ length (now (s .args .out))
+  begun : Written (now (s .args .out)) (s .args .at) (fields numbers (length numbers - 1)) (c .before .loop .out) (c .before .loop .end)
+  begun = let e : c .before .loop .k ≡ length numbers - 1 = omega (arith, c .loop-test .left) in rw (← e) (c .before .loop .inv .1)
 
-  without : (b c : List ℕ) → Room (b ++ c) → Room b
-  without b c h = first-fits (now (s .args .out)) (s .args .at) b c h
+field-requires-2 : tie.Need-field-requires-2 Inv-loop μ-loop
+field-requires-2 c κs = let d = c .before .before in
+    rw (unchanged w64 (c .field-arg4 .given)) (last-room _ _ _ (s d .pre .1) _ (begun d) (ends d))
 
-  room-tilt-y : Room to-tilt-y
-  room-tilt-y = subst⁻¹ Room line-is (s .pre)
+returns : tie.Need-returns Inv-loop μ-loop
+returns c = let f = c .before .before in let d = f .before .before .before in
+    line-written _ _ _ (s d .pre .1) _ (begun d) (ends d) (handed _ _ _ _ (f .before .field-arg4 .given) (f .field2 .ensures))
 
-  room-tilt-x : Room to-tilt-x
-  room-tilt-x = without to-tilt-x _ room-tilt-y
-
-  room-level : Room to-level
-  room-level = without to-level _ room-tilt-x
-
-  room-y : Room to-y
-  room-y = without to-y _ room-level
-
-  room-x : Room to-x
-  room-x = without to-x _ room-y
-
-  -- the fields b are written to t, and end before index e
-  abbrev Begun : List ℕ → List ℕ → ℕ → Type 0
-  Begun b t e = Written (now (s .args .out)) (s .args .at) b t e
-
--- the start of the function, from behind each field
-abbrev start : tie.After-field → tie.Start
-start c = c .before .before .before
-
-abbrev start2 : tie.After-field2 → tie.Start
-start2 c = start (c .before .before .before .before)
-
-abbrev start3 : tie.After-field3 → tie.Start
-start3 c = start2 (c .before .before .before .before)
-
-abbrev start4 : tie.After-field4 → tie.Start
-start4 c = start3 (c .before .before .before .before)
-
-abbrev start5 : tie.After-field5 → tie.Start
-start5 c = start4 (c .before .before .before .before)
-
-begun-y : (c : tie.After-field2) → Begun (start2 c) (to-y (start2 c)) (c .field2 .last .0) (c .field2 .result)
-begun-y c = let d = c .before .before .before .before in both-written _ _ _ _ (room-y (start d)) (d .field .ensures) (c .field2 .ensures)
-
-begun-level : (c : tie.After-field3) → Begun (start3 c) (to-level (start3 c)) (c .field3 .last .0) (c .field3 .result)
-begun-level c = let d = c .before .before .before .before in both-written _ _ _ _ (room-level (start2 d)) (begun-y d) (c .field3 .ensures)
-
-begun-tilt-x : (c : tie.After-field4) → Begun (start4 c) (to-tilt-x (start4 c)) (c .field4 .last .0) (c .field4 .result)
-begun-tilt-x c = let d = c .before .before .before .before in both-written _ _ _ _ (room-tilt-x (start3 d)) (begun-level d) (c .field4 .ensures)
-
-begun-tilt-y : (c : tie.After-field5) → Begun (start5 c) (to-tilt-y (start5 c)) (c .field5 .last .0) (c .field5 .result)
-begun-tilt-y c = let d = c .before .before .before .before in both-written _ _ _ _ (room-tilt-y (start4 d)) (begun-tilt-x d) (c .field5 .ensures)
-
-returns : tie.Need-returns
-returns c = let d = c .before .before in subst (λ b. Begun (start5 d) b (d .field5 .last .0) (d .field5 .result)) (line-is (start5 d)) (begun-tilt-y d)
+same-length : tie.Need-same-length Inv-loop μ-loop
+same-length c = let d = c .before .before .before .before .before in ap length (returns c .1) ∙ replaced-length _ _ _ (s d .pre .1)
 
 pub line-spec : {M : Type 1} → statement M
 line-spec =
     tie.close
     (tie.spec
+    Inv-loop
+    μ-loop
     (λ c. search needs)
-    (λ c κs. room-x (c .before .before))
+    (λ c. (search needs, starts _ _ _))
     (λ c. search needs)
-    (λ c κs. let d = c .before .before .before in second-fits _ _ _ _ (room-y (start d)) (d .field .ensures))
-    (λ c κs. let d = c .before .before .before in second-fits _ _ _ _ (room-level (start2 d)) (begun-y d))
-    (λ c κs. let d = c .before .before .before in second-fits _ _ _ _ (room-tilt-x (start3 d)) (begun-level d))
-    (λ c κs. let d = c .before .before .before in second-fits _ _ _ _ (room-tilt-y (start4 d)) (begun-tilt-x d))
     (λ c. search needs)
+    field-requires
+    (λ c. search needs)
+    (λ c. search needs)
+    loop-again
+    (λ c. search needs)
+    (λ c. search needs)
+    field-requires-2
+    same-length
     returns)

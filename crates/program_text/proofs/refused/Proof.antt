@@ -12,7 +12,7 @@ use lib.Seq.{sets, length-sets, lt-length-sets, sets-eq}
 use mir.Syntax.{w64}
 use Rattle.integers.proofs.Operand.{Operand, unsigned}
 use Rattle.program_text.specs.Text.{newline, field, refusedWord, refusedLine}
-use Rattle.program_text.proofs.Written.{Written, second-fits, both-written}
+use Rattle.program_text.proofs.Written.{Written, second-fits, both-written, at-start}
 use Rattle.program_text.proofs.refused.Statement.{statement}
 use Rattle.program_text.proofs.refused.Tie as tie
 
@@ -49,9 +49,9 @@ same-length c = c .before .before .field .kept .0 ∙ length-sets (now (c .befor
 
 returns : tie.Need-returns
 returns c = let s = c .before .before .before .before .before in
-    let w = subst (λ b. Written (now (s .args .out)) 0 b (c .before .before .field .last .0) (c .before .before .field .result)) (line-is s)
-    (both-written _ _ refusedWord _ (room s) (word-written s) (c .before .before .field .ensures)) in
-    (w .0 ∙ zero-add _, w .1)
+    at-start (now (s .args .out)) (refusedLine (s .args .n))
+    (subst (λ b. Written (now (s .args .out)) 0 b (c .before .before .field .last .0) (c .before .before .field .result)) (line-is s)
+    (both-written _ _ refusedWord _ (room s) (word-written s) (c .before .before .field .ensures)))
 
 pub refused-spec : {M : Type 1} → statement M
 refused-spec =

@@ -9,8 +9,8 @@ use Rattle.integers.specs.Within.{_within_}
 use Rattle.integers.specs.Ratio.{Denominates}
 use Rattle.integers.proofs.Operand.{Operand, asks, gives}
 use Rattle.sheet_layout.specs.Format.{lineFrom}
-use Rattle.sheet_slopes.specs.Slopes.{previous, next}
-use Rattle.sheet_slopes.proofs.Neighbours.{previous-≤, next-<}
+use Rattle.sheet_layout.specs.Neighbours.{previous, next}
+use Rattle.sheet_layout.proofs.NeighbourLaws.{previous-≤, next-<}
 use Rattle.sheet_steepness.proofs.Gaps.{denominates, rising, gap-is, grains}
 use Rattle.sheet_steepness.proofs.slopes.divisor.Statement.{statement}
 use Rattle.sheet_steepness.proofs.slopes.divisor.Tie as tie

@@ -1,11 +1,11 @@
--- `sheet_steepness::slopes::next` meets its contract. Assumes nothing.
+-- `sheet_layout::neighbours::next` meets its contract. Assumes nothing.
 use mathlib.Core.Path.{sym, _∙_}
 use borrow.Author.Needs.{needs}
 use native.Mathlib.Numerals.{add-one}
 use native.Mathlib.Omega.{arith}
-use Rattle.sheet_slopes.proofs.Neighbours.{neighbour-laws, last-is}
-use Rattle.sheet_steepness.proofs.slopes.next.Statement.{statement}
-use Rattle.sheet_steepness.proofs.slopes.next.Tie as tie
+use Rattle.sheet_layout.proofs.NeighbourLaws.{neighbour-laws, last-is}
+use Rattle.sheet_layout.proofs.neighbours.next.Statement.{statement}
+use Rattle.sheet_layout.proofs.neighbours.next.Tie as tie
 
 returns : tie.Need-returns
 returns c = add-one _ ∙ sym (neighbour-laws .after _ _ (omega (arith, c .if1 .taken)))
