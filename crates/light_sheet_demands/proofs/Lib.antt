@@ -14,3 +14,5 @@ pub mod Numbers
 pub mod Levels
 pub mod PoolRefusals
 pub mod Pooling
+pub mod Nudged
+pub mod Reach

@@ -48,7 +48,7 @@ module _ {Input : Type 0} (u : Input) where
   each-fails (r ∷ rules) f = (f .0, each-fails rules (f .1))
 
 -- what rules give, whatever they are, where none has the number 0
-gives : {Input : Type 0} (rules : List (Rule Input)) (u : Input) → T (nonzero rules) → {n : ℕ} → n ≡ firstRefusal rules u → Gives rules u n
+pub gives : {Input : Type 0} (rules : List (Rule Input)) (u : Input) → T (nonzero rules) → {n : ℕ} → n ≡ firstRefusal rules u → Gives rules u n
 gives rules u h e = rw e (record {
   refused = λ k z. (λ q. first-holds u (rule-laws .thenOnly rules u k z q), λ f. rule-laws .given rules u k (first-to-hold u rules k f));
   taken = (λ q. none-holds u rules (rule-laws .zeroOnly rules u (numbered rules h) q), λ f. rule-laws .zero rules u (each-fails u rules f));

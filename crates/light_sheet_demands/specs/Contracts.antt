@@ -1,5 +1,6 @@
--- What the public calls of crates/light_sheet and crates/light_sheet_c give and leave, in records that the demands speak of; crates/light_sheet_ties shows that
--- each call meets its own. In a record s is the sheet, or the slice, that is lent, and t what the sheet holds at the call's end. Assumes nothing.
+-- What the public calls of crates/light_sheet and crates/light_sheet_c, and the workers of a run and of the program `reach`, give and leave, in records that
+-- the demands speak of; crates/light_sheet_ties shows that each meets its own. In a record s is the sheet, or the slice, that is lent, and t what the sheet
+-- holds at the call's end. Assumes nothing.
 use Prim.Native.Nat.{ℕ}
 use mathlib.Core.Path.{_≡_}
 use mathlib.Core.List.{List}
@@ -11,6 +12,8 @@ use Rattle.sheet_calls.specs.Refusals.{checkRefusal, lookupRefusal, settingRefu
 use Rattle.sheet_calls.specs.Calls.{Part, lookedUp, withNode}
 use Rattle.sheet_slopes.specs.Slopes.{slopeRefusal, withSlopes}
 use Rattle.sheet_pool.specs.Pool.{poolRefusal, withPool}
+use Rattle.sheet_reach.specs.Reach.{reachRefusal, told, reachAnswer}
+use Rattle.sheet_reach.specs.declared.Reach.{Reach}
 use Rattle.surface_answers.specs.Answers.{outcome}
 use Rattle.surface_answers.specs.declared.Answer.{Answer}
 use Rattle.surface_of_sheet.specs.Read.{read}
@@ -74,6 +77,12 @@ pub record FillRun (s : List ℕ) (x y : ℕ) (row : List ℤ) (n : ℕ) (row′
 pub record RunSteps (s : List ℕ) (x y : ℕ) (row : List ℤ) (budget : ℕ) (row′ : List ℤ) (t : List ℕ) : Type 0 where
   pub levels : row′ ≡ afterSteps s x y budget row
   pub sheet : t ≡ s
+
+-- the worker of the program `reach`, `sheet_reaching::reach`, on all bytes that are read gives r: by the answer's definition its number and its positions
+pub record ReachOf (input : List ℕ) (r : Reach) (t : List ℕ) : Type 0 where
+  pub answer : told r .number ≡ reachRefusal input
+  pub positions : told r .positions ≡ reachAnswer input .positions
+  pub bytes : t ≡ input
 
 -- the calls for C: six meet the records above, and the three below are theirs alone
 

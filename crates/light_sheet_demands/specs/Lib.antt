@@ -4,3 +4,4 @@ pub mod Slopes
 pub mod Bends
 pub mod Growing
 pub mod Pooling
+pub mod Reach

@@ -6,6 +6,7 @@ ghost use Rattle.light_sheet_demands.specs.Slopes.{SlopeFilling};
 ghost use Rattle.light_sheet_demands.specs.Bends.{BothSides};
 ghost use Rattle.light_sheet_demands.specs.Growing.{RowGrows};
 ghost use Rattle.light_sheet_demands.specs.Pooling.{SheetsPooled};
+ghost use Rattle.light_sheet_demands.specs.Reach.{NodeReach};
 
 pub fn demand_one() -> u64
     ensures { λ r. ⌜ (r ≡ 0) × DemandOne ⌝ }
@@ -45,6 +46,12 @@ pub fn row_grows() -> u64
 
 pub fn sheets_pooled() -> u64
     ensures { λ r. ⌜ (r ≡ 0) × SheetsPooled ⌝ }
+{
+    0
+}
+
+pub fn node_reach() -> u64
+    ensures { λ r. ⌜ (r ≡ 0) × NodeReach ⌝ }
 {
     0
 }

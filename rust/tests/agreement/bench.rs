@@ -298,7 +298,8 @@ impl Bench {
     }
 }
 
-fn bytes_text(bytes: &[u8]) -> String {
+/// Bytes as they are printed: whole, or where they are many their count.
+pub fn bytes_text(bytes: &[u8]) -> String {
     if bytes.len() > SHORT {
         return format!("({} bytes)", bytes.len());
     }

@@ -73,6 +73,13 @@ pub fn large(random: &mut Random) -> Draft {
     sheet(random, if turned { [counts[1], counts[0]] } else { counts }, gaps, numbers)
 }
 
+/// A random sheet of the most bytes that one can have.
+pub fn longest(random: &mut Random) -> Draft {
+    let gaps = [random.pick(&ALL_GAPS), random.pick(&ALL_GAPS)];
+    let numbers = random.pick(&ALL_NUMBERS);
+    sheet(random, [65, 65], gaps, numbers)
+}
+
 /// A sheet on the lines of another, with numbers of its own.
 pub fn renumbered(random: &mut Random, draft: &Draft, numbers: Numbers) -> Draft {
     let nodes = draft.nodes.iter().map(|_| node(random, numbers)).collect();

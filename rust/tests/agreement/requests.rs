@@ -6,10 +6,21 @@ use std::path::PathBuf;
 use crate::call::{Call, Outcome, Written};
 
 /// The files, and how many cases each has.
-const FILES: [(&str, usize); 3] =
-    [("101-slopes.txt", 140), ("102-bends.txt", 140), ("104-pool.txt", 140)];
+const FILES: [(&str, usize); 4] = [
+    ("101-slopes.txt", 140),
+    ("102-bends.txt", 140),
+    ("104-pool.txt", 140),
+    ("105-reach.txt", 140),
+];
 /// The last request that has landed: cases that hold until it, or until an earlier one, do not.
-const LANDED: u32 = 104;
+const LANDED: u32 = 105;
+
+/// What is asked of calls, and of the program `reach`.
+#[derive(Default)]
+pub struct Requests {
+    pub cases: Vec<Case>,
+    pub inputs: Vec<Input>,
+}
 
 /// A call on a sheet, and what it comes to.
 pub struct Case {
@@ -22,30 +33,50 @@ pub struct Case {
     pub answer: String,
 }
 
+/// An input of the program `reach`, and what it comes to.
+pub struct Input {
+    pub name: String,
+    pub bytes: Vec<u8>,
+    /// The number and what is printed, as they stand in the line.
+    pub answer: String,
+}
+
 /// All that hold now. The tests cannot do without.
-pub fn all() -> Vec<Case> {
+pub fn all() -> Requests {
     let folder = PathBuf::from(env!("CARGO_MANIFEST_DIR")).join("../tests/vectors/requests");
     let entries = fs::read_dir(&folder).expect("the requests' vectors");
     let texts =
         entries.filter(|entry| entry.as_ref().unwrap().path().extension().unwrap() == "txt");
     assert_eq!(texts.count(), FILES.len(), "every file of the folder is listed here");
-    let mut cases = Vec::new();
+    let mut requests = Requests::default();
     for (file, count) in FILES {
         let text = fs::read_to_string(folder.join(file)).expect(file);
         assert_eq!(text.lines().count(), count, "the cases of {file}");
-        let numbered = (1..).zip(text.lines());
-        cases.extend(numbered.filter_map(|(k, line)| case(format!("{file}, line {k}"), line)));
+        for (k, line) in (1..).zip(text.lines()) {
+            requests.add(format!("{file}, line {k}"), line);
+        }
     }
-    cases
+    requests
 }
 
-/// A line: the call, its arguments, an arrow, the number, what is written; `until` and a request.
-fn case(name: String, line: &str) -> Option<Case> {
-    let (line, until) = line.split_once(" until ").unwrap_or((line, "4294967295"));
-    if until.parse::<u32>().expect("a request") <= LANDED {
-        return None;
+impl Requests {
+    /// A line: the call or the program, its arguments, an arrow, the number, what is written; `until`
+    /// and a request.
+    fn add(&mut self, name: String, line: &str) {
+        let (line, until) = line.split_once(" until ").unwrap_or((line, "4294967295"));
+        if until.parse::<u32>().expect("a request") <= LANDED {
+            return;
+        }
+        let (called, answer) = line.split_once(" -> ").expect("an arrow");
+        let answer = answer.to_string();
+        match called.strip_prefix("reach ") {
+            Some(input) => self.inputs.push(Input { name, bytes: bytes(input), answer }),
+            None => self.cases.push(case(name, called, answer)),
+        }
     }
-    let (called, answer) = line.split_once(" -> ").expect("an arrow");
+}
+
+fn case(name: String, called: &str, answer: String) -> Case {
     let words: Vec<&str> = called.split(' ').collect();
     let (sheet, second, call) = match words[..] {
         ["fill_slopes", sheet, stiffness] => {
@@ -61,7 +92,7 @@ fn case(name: String, line: &str) -> Option<Case> {
         _ => panic!("{name}: not a call"),
     };
     let [sheet, second] = [sheet, second].map(bytes);
-    Some(Case { name, sheet, second, call, answer: answer.to_string() })
+    Case { name, sheet, second, call, answer }
 }
 
 /// What a call comes to on this sheet, as a line has it behind the arrow.

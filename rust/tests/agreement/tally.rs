@@ -2,6 +2,7 @@
 
 use crate::call::{Call, Outcome, Written, NAMES};
 use crate::patterns;
+use crate::reach::Reach;
 use crate::sheet::{Sheet, NODE_BYTES};
 use crate::watch;
 
@@ -18,6 +19,12 @@ const SHEET_REFUSALS: usize = 6;
 const ROUNDED: [&str; 3] = ["readings and runs", "filled slopes", "bends from each piece"];
 /// How many pieces can touch a pixel.
 const TOUCHING: [usize; 4] = [1, 2, 4, 8];
+/// The refusals of the program `reach`.
+const REACH_REFUSALS: [usize; 7] = [1, 2, 3, 4, 5, 6, 10];
+/// How many cells can touch a node: at a corner of the mesh, on an edge of it, inside.
+const TOUCHED: [usize; 3] = [1, 2, 4];
+/// Fewer inputs than this is a failure.
+const LEAST_INPUTS: u64 = 2_000;
 /// The ends of what a sum may be.
 const ENDS: [i16; 2] = [-4095, 4095];
 
@@ -42,6 +49,10 @@ pub struct Tally {
     ties: [[u64; 2]; ROUNDED.len()],
     /// NaN in slots that a bare reading keeps, signalling ones and quiet ones.
     kept_nans: [u64; 2],
+    /// Inputs of the program `reach` by refusal, 0 where accepted.
+    inputs: [u64; REFUSALS + 1],
+    /// Those accepted by how many cells touch the node.
+    touched: [u64; TOUCHED.len()],
     differences: u64,
 }
 
@@ -100,6 +111,19 @@ impl Tally {
         }
     }
 
+    /// Counts an input of the program `reach`.
+    pub fn count_reach(&mut self, found: &Result<Reach, u32>) {
+        watch::call_ended();
+        match found {
+            Ok(reach) => {
+                let sort = TOUCHED.iter().position(|&cells| cells == reach.cells);
+                self.touched[sort.expect("one, two or four cells touch")] += 1;
+                self.inputs[0] += 1;
+            }
+            Err(refusal) => self.inputs[*refusal as usize] += 1,
+        }
+    }
+
     /// Counts a difference. Gives its number if it is among the first, which are told in full.
     pub fn count_difference(&mut self) -> Option<u64> {
         self.differences += 1;
@@ -137,6 +161,15 @@ impl Tally {
         for (name, _) in ROUNDED.iter().zip(self.ties).filter(|(_, ties)| ties.contains(&0)) {
             complaints.push(format!("no tie of some sign was ever met: {name}"));
         }
+        if self.inputs.iter().sum::<u64>() < LEAST_INPUTS {
+            complaints.push(format!("fewer than {LEAST_INPUTS} inputs of the program reach"));
+        }
+        for refusal in REACH_REFUSALS.into_iter().filter(|&refusal| self.inputs[refusal] == 0) {
+            complaints.push(format!("refusal {refusal} of the program reach was never met"));
+        }
+        if self.touched.contains(&0) {
+            complaints.push("no node of some sort was ever met by the program reach".to_string());
+        }
         if self.kept_nans.contains(&0) {
             complaints.push("no NaN of some kind was ever kept".to_string());
         }
@@ -165,6 +198,10 @@ impl Tally {
         }
         let [signalling, quiet] = self.kept_nans;
         println!("NaN kept in arrays: {quiet} quiet, {signalling} signalling");
+        let [corners, edges, inside] = self.touched;
+        let inputs: u64 = self.inputs.iter().sum();
+        println!("inputs of the program reach: {inputs}");
+        println!("  nodes at corners of the mesh: {corners}, on edges: {edges}, inside: {inside}");
         println!("differences: {}", self.differences);
         println!("seconds: {seconds:.1}");
     }
@@ -179,6 +216,7 @@ impl Tally {
         for (name, counts) in NAMES.iter().zip(&self.calls) {
             println!("{}", row(name, counts));
         }
+        println!("{}", row("reach", &self.inputs));
     }
 
     fn refused(&self, refusal: usize) -> u64 {

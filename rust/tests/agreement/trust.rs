@@ -13,7 +13,8 @@ use crate::meshes::{self, Numbers};
 use crate::pixels;
 use crate::pool;
 use crate::random::Random;
-use crate::requests::{self, Case};
+use crate::reach;
+use crate::requests::{self, Requests};
 use crate::sheet::Sheet;
 use crate::vectors::Vector;
 
@@ -21,7 +22,7 @@ use crate::vectors::Vector;
 const POINTS: i128 = 12;
 
 /// Stops at the first doubt.
-pub fn check(random: &mut Random, vectors: &[Vector], cases: &[Case]) {
+pub fn check(random: &mut Random, vectors: &[Vector], requests: &Requests) {
     for _ in 0..2_000 {
         let cell = any_cell(random);
         meets_the_conditions(&cell);
@@ -34,6 +35,7 @@ pub fn check(random: &mut Random, vectors: &[Vector], cases: &[Case]) {
         let draft = meshes::any(random);
         reads_beside_creases(&draft.sheet());
         pools_add_up(random, &draft);
+        nudges_reach(random, &draft);
     }
     for boundary in boundaries::all(random) {
         let refusal = Sheet::decode(&boundary.bytes).err().unwrap_or(0);
@@ -42,10 +44,14 @@ pub fn check(random: &mut Random, vectors: &[Vector], cases: &[Case]) {
     for vector in vectors {
         agrees_with(vector);
     }
-    for case in cases {
+    for case in &requests.cases {
         let [sheet, second] = [&case.sheet, &case.second].map(|bytes| Sheet::decode(bytes));
         let outcome = case.call.outcome_beside(&sheet, &second);
         assert!(requests::answer(&case.sheet, &outcome) == case.answer, "{}", case.name);
+    }
+    for input in &requests.inputs {
+        let found = reach::of_input(&input.bytes);
+        assert_eq!(reach::answer(&found), input.answer, "{}", input.name);
     }
 }
 
@@ -191,6 +197,60 @@ fn pools_add_up(random: &mut Random, draft: &Draft) {
             assert!(first.denominator == second.denominator && sum == pool, "the sum at {x}, {y}");
         }
     }
+}
+
+/// A height of a small sheet is nudged. The exact level changes inside the lines that its node
+/// reaches to, up to the pixels beside them, nowhere against the sign, and by at most 64 grains a
+/// step; what is read of it likewise. At the node it changes by as much.
+fn nudges_reach(random: &mut Random, draft: &Draft) {
+    let node = [random.index(draft.x_lines.len()), random.index(draft.y_lines.len())];
+    let before = draft.sheet();
+    let (after, grains) = nudged(random, draft, node);
+    let at = [before.x_lines[node[0]], before.y_lines[node[1]]];
+    let reach = reach::of_node(&before, node[0] as u32, node[1] as u32).expect("a node").lines;
+    let beside = |pixel: [u32; 2], axis: usize| {
+        let (low, high) = (reach[axis], reach[axis + 2]);
+        [low + 1, high - 1].contains(&pixel[axis]) && pixel[1 - axis] == at[1 - axis]
+    };
+    let inside = |pixel: [u32; 2], axis: usize| {
+        let (low, high, place) = (reach[axis], reach[axis + 2], pixel[axis]);
+        place == at[axis] || low < place && place < high
+    };
+    for pixel in
+        pixels::every_up_to(&before, 2_000).unwrap_or_default().into_iter().map(<[u32; 2]>::from)
+    {
+        let [before, after] = [&before, &after].map(|sheet| sheet.exact(pixel[0], pixel[1]).level);
+        let change = after.numerator - before.numerator;
+        let read = i128::from(after.rounded()) - i128::from(before.rounded());
+        assert_eq!(before.denominator, after.denominator, "that of the cell");
+        let all_inside = inside(pixel, 0) && inside(pixel, 1);
+        assert!(change == 0 || all_inside, "a change outside the lines, at {pixel:?}");
+        assert!(change * grains >= 0 && read * grains >= 0, "a change against the sign");
+        let most = grains.abs();
+        assert!(
+            change.abs() <= most * before.denominator && read.abs() <= most,
+            "too large a change"
+        );
+        if pixel == at {
+            assert!(
+                change == grains * before.denominator && read == grains,
+                "the change at the node"
+            );
+        }
+        if grains != 0 && all_inside && (beside(pixel, 0) || beside(pixel, 1)) {
+            assert!(change != 0, "no change at {pixel:?}, beside a line");
+        }
+    }
+}
+
+/// The sheet with the height of one node changed, and by how many grains.
+fn nudged(random: &mut Random, draft: &Draft, node: [usize; 2]) -> (Sheet, i128) {
+    let mut draft = draft.clone();
+    let height = &mut draft.nodes[node[1] * draft.x_lines.len() + node[0]][0];
+    let held = i128::from(*height);
+    *height = random.pick(&[-4095, *height - 1, *height + 1, 4095]).clamp(-4095, 4095);
+    let grains = 64 * (i128::from(*height) - held);
+    (draft.sheet(), grains)
 }
 
 /// At every pixel of a small sheet the bend reading is the entry for the right or lower cell and its

@@ -1,0 +1,2 @@
+pub mod ReachLine
+pub mod ReachLineLaws

@@ -1,0 +1,3 @@
+pub mod Reach
+pub mod ReachLaws
+pub mod Examples

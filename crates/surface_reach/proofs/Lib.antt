@@ -1,0 +1,5 @@
+mod Cells
+mod Axis
+mod Sides
+mod Either
+pub mod Laws

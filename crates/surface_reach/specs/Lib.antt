@@ -1,0 +1,2 @@
+pub mod Nudged
+pub mod NudgedLevels
