@@ -1,4 +1,4 @@
--- A sheet from the outside vectors, whose bends jump. Assumes nothing.
+-- A sheet from the outside vectors, with cells of four sizes. Assumes nothing.
 use Prim.Native.Nat.{ℕ}
 use mathlib.Core.List.{List, [], _∷_, _++_}
 
