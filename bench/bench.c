@@ -1,5 +1,5 @@
-/* How fast the module fills rows of levels, fills all slopes of a sheet, gives bends, and pools sheets, beside the plain C baseline on the same sheets in one
- * run, and what each other call takes.
+/* How fast the module fills rows of levels and of zoned ones, fills all slopes of a sheet, gives bends, and pools sheets, beside the plain C baseline on the
+ * same sheets in one run, and what each other call takes.
  * Usage: bench [--rounds N] measures and prints Markdown; bench --sheet FILE writes the longest sheet to FILE and prints how many pixels its mesh has. */
 #define _POSIX_C_SOURCE 200809L
 #include <stdio.h>
@@ -15,6 +15,7 @@
 #include "sheets.h"
 #include "slopes.h"
 #include "timing.h"
+#include "zones.h"
 
 #ifdef __clang__
 #define COMPILER __VERSION__
@@ -33,6 +34,7 @@ static double measure(int rounds) {
     prepare_slopes();
     prepare_bends();
     prepare_pools();
+    prepare_zones();
     double from = now(), others = others_seconds();
     for (int round = 0; round < rounds; round++) {
         measure_frames(round);
@@ -40,6 +42,7 @@ static double measure(int rounds) {
         measure_slopes(round);
         measure_bends(round);
         measure_pools(round);
+        measure_zones(round);
     }
     others = (others_seconds() - others) / (now() - from);
     free_frames();
@@ -68,7 +71,7 @@ static void print_conditions(void) {
     printf("- Buffers: cleared before every timing, outside the timed part, with a number that no level has. So all their pages are there, and the caches are "
            "warm: they hold as much of a buffer as fits.\n");
     printf("- The module checks the whole sheet in every call, and is called once for each row of pixels: its figures include that. The baseline checks "
-           "nothing, but for bends and pools, where it makes the same checks.\n");
+           "nothing, but for bends, pools and zoned rows, where it makes the same checks.\n");
     printf("- After every timing all levels are compared with those of `pixels`. One of `spans` or of the module that differs ends the run, as does one of "
            "`double` that is more than a grain off.\n");
     fflush(stdout);
@@ -103,6 +106,7 @@ int main(int argc, char **argv) {
     print_slopes(rounds);
     print_bends(rounds);
     print_pools(rounds);
+    print_zones(rounds);
     print_singles(rounds);
     return 0;
 }

@@ -2,6 +2,7 @@
 
 #include <inttypes.h>
 #include <stdio.h>
+#include <string.h>
 
 #include "fail.h"
 #include "reference.h"
@@ -30,6 +31,15 @@ static double make_bend(Sheet *sheet, const Place *at) {
     return v[0] + v[1] + v[2];
 }
 
+/* Sixteen zones over the whole screen. */
+static uint8_t whole_screen[LVS_MAX_ZONES * LVS_ZONE_SIZE];
+
+static double make_zoned_level(Sheet *sheet, const Place *at) {
+    int32_t level;
+    expect("lvs_zoned_level", lvs_zoned_level(sheet->bytes, sheet->len, whole_screen, sizeof whole_screen, at->x, at->y, &level));
+    return level;
+}
+
 static double make_node_refusal(Sheet *sheet, const Place *at) {
     expect("lvs_node_refusal", lvs_node_refusal(sheet->bytes, sheet->len, at->column, at->row));
     return at->x;
@@ -52,13 +62,14 @@ typedef struct {
 } Call;
 
 enum { SINGLES = 3, BATCHES = 10 };
-enum { CHECK, CALLS = 7 };
+enum { CHECK, CALLS = 8 };
 
 static const Call calls[CALLS] = {
     {"`lvs_check`", make_check},
     {"`lvs_read`, level", make_level},
     {"`lvs_read`, tilt", make_tilt},
     {"`lvs_read`, bend", make_bend},
+    {"`lvs_zoned_level`, 16 zones", make_zoned_level},
     {"`lvs_node_refusal`", make_node_refusal},
     {"`lvs_node_offset`", make_node_offset},
     {"`lvs_set_node`", make_set_node},
@@ -102,6 +113,8 @@ static void compare_readings(Sheet *sheet) {
 }
 
 void prepare_singles(void) {
+    static const uint8_t zone[LVS_ZONE_SIZE] = {0, 0, 0, 0, 0xFF, 0xFF, 0xFF, 0xFF, 0x01, 0xF0, 0xFF, 0x0F};
+    for (size_t k = 0; k < sizeof whole_screen; k += sizeof zone) memcpy(whole_screen + k, zone, sizeof zone);
     for (Single *single = singles; single < singles + SINGLES; single++) {
         make_sheet(&single->sheet, single_meshes[single - singles]);
         compare_readings(&single->sheet);

@@ -1,6 +1,6 @@
-/* What a server does with a sheet, by each of the nine calls: checks it, reads at a pixel, lists the bends from each piece there, fills the row from there on,
- * finds a node, sets it, reads it back, fills all slopes from the heights and reads once more. Then it takes the sheet as the screen's, pools it with those of
- * lens and port glass, and reads what the lamp sees.
+/* What a server does with a sheet, by each of the eleven calls: checks it, reads at a pixel, lists the bends from each piece there, fills the row from there
+ * on, with a floor of light for subtitles too, finds a node, sets it, reads it back, fills all slopes from the heights and reads once more. Then it takes the
+ * sheet as the screen's, pools it with those of lens and port glass, and reads what the lamp sees.
  * Usage: sheet FILE [X Y]; without a pixel, at the mesh's first. */
 #include <inttypes.h>
 #include <stdio.h>
@@ -11,7 +11,7 @@
 
 static const char *const meaning[] = {
     "done", "mark", "version", "counts", "length", "lines", "nodes", "outside the mesh", "empty run", "reading kind", "no such node", "new numbers",
-    "stiffness", "too steep", "few places", "second sheet", "other lines", "target's length",
+    "stiffness", "too steep", "few places", "second sheet", "other lines", "target's length", "list of zones", "zone",
 };
 
 /* Ends the program where a call is refused. */
@@ -48,15 +48,44 @@ static void print_bends(const uint8_t *sheet, size_t len, uint32_t x, uint32_t y
     printf("\n");
 }
 
-/* The levels from a pixel to the right edge of the mesh; the sheet is accepted, the pixel of the mesh. */
-static void print_row(const uint8_t *sheet, size_t len, uint32_t x, uint32_t y) {
-    static int32_t levels[LVS_MAX_RUN];
-    uint32_t columns = sheet[5];
-    size_t count = word(sheet + 8 + 2 * (columns - 1)) - x + 1;
-    expect("run", lvs_fill_run(sheet, len, x, y, levels, count));
-    printf("levels along the row, in grains:");
+/* The pixels from this one to the right edge of the mesh; the sheet is accepted, the pixel of the mesh. */
+static size_t row_length(const uint8_t *sheet, uint32_t x) { return word(sheet + 8 + 2 * (sheet[5] - 1)) - x + 1; }
+
+static void print_levels(const char *what, const int32_t *levels, size_t count) {
+    printf("%s along the row, in grains:", what);
     for (size_t k = 0; k < count; k++) printf(" %" PRId32, levels[k]);
     printf("\n");
+}
+
+static void print_row(const uint8_t *sheet, size_t len, uint32_t x, uint32_t y) {
+    static int32_t levels[LVS_MAX_RUN];
+    size_t count = row_length(sheet, x);
+    expect("run", lvs_fill_run(sheet, len, x, y, levels, count));
+    print_levels("levels", levels, count);
+}
+
+/* A zone over the lower part of the picture, from the row in the middle of the mesh down: a floor of one step for subtitles, and the highest ceiling. */
+static uint32_t write_subtitles(uint8_t zone[LVS_ZONE_SIZE], const uint8_t *sheet) {
+    const uint8_t *rows = sheet + 8 + 2 * sheet[5];
+    uint32_t top = (word(rows) + word(rows + 2 * (sheet[6] - 1))) / 2;
+    const uint32_t numbers[] = {0, top, 65535, 65535, 1, 4095};
+    for (int k = 0; k < 6; k++) {
+        zone[2 * k] = (uint8_t)numbers[k];
+        zone[2 * k + 1] = (uint8_t)(numbers[k] >> 8);
+    }
+    return top;
+}
+
+static void print_with_subtitles(const uint8_t *sheet, size_t len, uint32_t x, uint32_t y) {
+    static int32_t levels[LVS_MAX_RUN];
+    uint8_t zones[LVS_ZONE_SIZE]; /* a list of one */
+    uint32_t top = write_subtitles(zones, sheet);
+    int32_t level;
+    size_t count = row_length(sheet, x);
+    expect("zoned level", lvs_zoned_level(sheet, len, zones, sizeof zones, x, y, &level));
+    printf("with subtitles from row %" PRIu32 " down, zoned level: %" PRId32 " grains\n", top, level);
+    expect("zoned run", lvs_fill_zoned_run(sheet, len, zones, sizeof zones, x, y, levels, count));
+    print_levels("zoned levels", levels, count);
 }
 
 static void print_first_node(const uint8_t *node) {
@@ -114,6 +143,7 @@ int main(int argc, char **argv) {
     print_readings(sheet, len, x, y);
     print_bends(sheet, len, x, y);
     print_row(sheet, len, x, y);
+    print_with_subtitles(sheet, len, x, y);
     brighten_first_node(sheet, len);
     print_readings(sheet, len, first_x, first_y);
     fill_slopes(sheet, len);

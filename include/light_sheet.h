@@ -2,21 +2,22 @@
  * docs/FORMAT.md.
  *
  * Link with liblight_sheet_c.a, for x86-64 Linux: `rt staticlib light_sheet_c` proves the module and writes the archive to target/staticlib. The archive has
- * these nine calls and needs no other library, not even that of C.
+ * these eleven calls and needs no other library, not even that of C.
  *
  * Of every call:
  * - Nothing is kept from one call to the next, nothing is allocated, no system call is made, errno is not touched. A call always returns, and takes at most
  *   LVS_STACK bytes of stack.
- * - The whole sheet is checked each time, so a sheet need not be checked first. Any bytes may be passed as a sheet: none is read behind its length.
+ * - The whole sheet, and the whole list of zones, is checked each time, so neither need be checked first. Any bytes may be passed as a sheet or as zones: none is
+ *   read behind its length.
  * - A call that is refused changes no memory that it was lent. The number is that of the first condition, in the order of lvs_refusal, that holds among those
  *   that concern the call; only lvs_pool looks at one of them, 11, out of that order.
  * - Any number of threads may call at once, also on one sheet, as long as no thread sets a node, fills slopes or writes a pool in it meanwhile.
  *
  * The caller's duty, which no call can check:
- * - sheet points to len bytes, first, second and target to first_len, second_len and target_len, levels to count numbers, values to three, bends to places
- *   numbers, pieces to one; with a length of 0 the pointer is never followed and may be null.
- * - levels, values, bends, pieces and target overlap neither a sheet nor each other, and no other thread writes to what is lent while a call runs. first and
- *   second are only read: they may be one sheet.
+ * - sheet points to len bytes, first, second, target and zones to first_len, second_len, target_len and zones_len, levels to count numbers, values to three,
+ *   bends to places numbers, pieces and level to one; with a length of 0 the pointer is never followed and may be null.
+ * - levels, values, bends, pieces, level and target overlap neither a sheet nor zones nor each other, and no other thread writes to what is lent while a call
+ *   runs. first and second are only read: they may be one sheet.
  */
 #ifndef LIGHT_SHEET_H
 #define LIGHT_SHEET_H
@@ -47,7 +48,9 @@ enum lvs_refusal {
     LVS_FEW_PLACES = 14,  /* fewer than 24 places for bends */
     LVS_SECOND = 15,      /* the second sheet would be refused with 1 to 6 */
     LVS_OTHER_LINES = 16, /* the lines of the two sheets differ */
-    LVS_TARGET = 17       /* the target is not as long as the first sheet */
+    LVS_TARGET = 17,      /* the target is not as long as the first sheet */
+    LVS_ZONE_LIST = 18,   /* a list of zones not a multiple of 12 bytes long, or longer than 192 */
+    LVS_ZONE = 19         /* a zone with left above right, top above bottom or floor above ceiling, or with a limit outside -4095 to 4095 */
 };
 
 /* What a reading gives: the height of the surface, its slopes, its second derivatives. */
@@ -57,11 +60,14 @@ enum lvs_kind {
     LVS_BEND = 2   /* three, xx, xy and yy, in steps per pixel per pixel */
 };
 
-/* The largest sheet, in bytes; the bytes of a node; the pixels of the longest row; the places for bends: eight pieces, three numbers each. */
+/* The largest sheet, in bytes; the bytes of a node; the pixels of the longest row; the places for bends: eight pieces, three numbers each; the bytes of a
+ * zone; the most zones of a list. */
 #define LVS_MAX_SHEET 25618
 #define LVS_NODE_SIZE 6
 #define LVS_MAX_RUN 4097
 #define LVS_BEND_PLACES 24
+#define LVS_ZONE_SIZE 12
+#define LVS_MAX_ZONES 16
 
 /* The stack that any call takes at most, in bytes. A run has no row of its own, so it takes no more than that; LVS_RUN_STACK is for code that names it. */
 #define LVS_STACK 1024
@@ -119,6 +125,22 @@ uint32_t lvs_bends(const uint8_t *sheet, size_t len, uint32_t x, uint32_t y, int
  * the first, it finds, for some k, the first k places with their levels and the others as they were.
  * Returns 0, and has written all count places; or 1 to 8, and has written nothing. */
 uint32_t lvs_fill_run(const uint8_t *sheet, size_t len, uint32_t x, uint32_t y, int32_t *levels, size_t count);
+
+/* Gives the zoned level at a pixel of the mesh, in grains: the level, as lvs_read rounds it, and as zones raise and lower it. A zone has a floor, such as
+ * subtitles need, and a ceiling, such as exit lamps need.
+ * zones is a list of up to LVS_MAX_ZONES zones of LVS_ZONE_SIZE bytes; it may be empty. A zone is six 16-bit numbers, low byte first: left, top, right and
+ * bottom, unsigned, its outermost pixels; then floor and ceiling, signed, in steps, from -4095 to 4095. left is at most right, top at most bottom, floor at
+ * most ceiling. A zone may lie off the mesh.
+ * Each zone that holds the pixel, in the order of the list, raises the level to its floor if it is below, then lowers it to its ceiling if it is above. Where
+ * zones lie over each other, the last one that holds the pixel has its limits kept; the level may pass those of an earlier one.
+ * Returns 0, and has written the zoned level to *level; or 1 to 7, 18 or 19, and has written nothing. */
+uint32_t lvs_zoned_level(const uint8_t *sheet, size_t len, const uint8_t *zones, size_t zones_len, uint32_t x, uint32_t y, int32_t *level);
+
+/* Fills a run of zoned levels along a row of pixels: place k of levels gets what lvs_zoned_level gives at the pixel (x + k, y).
+ * The row grows by stretches, each of pixels that the same zones hold: those before are done, those behind as they were. In the one under way a monitor may see
+ * plain levels.
+ * Returns 0, and has written all count places; or 1 to 8, 18 or 19, and has written nothing. */
+uint32_t lvs_fill_zoned_run(const uint8_t *sheet, size_t len, const uint8_t *zones, size_t zones_len, uint32_t x, uint32_t y, int32_t *levels, size_t count);
 
 #ifdef __cplusplus
 }

@@ -24,17 +24,21 @@ static_assert(LVS_FEW_PLACES == 14, "places for bends");
 static_assert(LVS_SECOND == 15, "the second sheet of a pool");
 static_assert(LVS_OTHER_LINES == 16, "lines of a pool");
 static_assert(LVS_TARGET == 17, "length of a pool");
+static_assert(LVS_ZONE_LIST == 18, "length of a list of zones");
+static_assert(LVS_ZONE == 19, "a zone's sides and limits");
 
 /* reading kinds */
 static_assert(LVS_LEVEL == 0, "the height");
 static_assert(LVS_TILT == 1, "the slopes");
 static_assert(LVS_BEND == 2, "the second derivatives");
 
-/* limits: 65 lines each way; three numbers of 16 bits; pixels 0 to 4,096; two pieces of each of four cells */
+/* limits: 65 lines each way; three numbers of 16 bits; pixels 0 to 4,096; two pieces of each of four cells; six numbers of 16 bits; 16 zones */
 static_assert(LVS_MAX_SHEET == 25618, "8 + 2 * 65 + 2 * 65 + 6 * 65 * 65");
 static_assert(LVS_NODE_SIZE == 6, "bytes");
 static_assert(LVS_MAX_RUN == 4097, "pixels");
 static_assert(LVS_BEND_PLACES == 24, "3 * 2 * 4");
+static_assert(LVS_ZONE_SIZE == 12, "bytes");
+static_assert(LVS_MAX_ZONES == 16, "zones");
 
 /* stack, in bytes */
 static_assert(LVS_STACK == 1024, "1 KB");
@@ -53,6 +57,8 @@ unsigned int lvs_pool(const unsigned char *, unsigned long, const unsigned char 
 unsigned int lvs_read(const unsigned char *, unsigned long, unsigned int, unsigned int, unsigned int, double[3]);
 unsigned int lvs_bends(const unsigned char *, unsigned long, unsigned int, unsigned int, long *, unsigned long, unsigned int *);
 unsigned int lvs_fill_run(const unsigned char *, unsigned long, unsigned int, unsigned int, int *, unsigned long);
+unsigned int lvs_zoned_level(const unsigned char *, unsigned long, const unsigned char *, unsigned long, unsigned int, unsigned int, int *);
+unsigned int lvs_fill_zoned_run(const unsigned char *, unsigned long, const unsigned char *, unsigned long, unsigned int, unsigned int, int *, unsigned long);
 #ifdef __cplusplus
 }
 #endif

@@ -11,6 +11,7 @@
 
 #include "light_sheet.h"
 #include "sheet.h"
+#include "zone.h"
 
 enum { UNTOUCHABLE = 1 << 28, ROOM = 1 << 16, LONGEST_LINES = 65 };
 
@@ -59,9 +60,9 @@ static void on_stack(size_t size, void (*make)(void *), void *call) {
 struct call {
     uint8_t *sheet; /* the first one of a pool */
     size_t len;
-    const uint8_t *second;
+    const uint8_t *second, *zones;
     uint8_t *target;
-    size_t second_len, target_len;
+    size_t second_len, target_len, zones_len;
     uint32_t x, y, kind, stiffness;
     int32_t height;
     int32_t *levels;
@@ -69,6 +70,7 @@ struct call {
     double values[3];
     int64_t bends[LVS_BEND_PLACES];
     uint32_t pieces;
+    int32_t level;
     size_t given;
 };
 
@@ -117,6 +119,16 @@ static void make_fill_run(void *of) {
     c->given = lvs_fill_run(c->sheet, c->len, c->x, c->y, c->levels, c->count);
 }
 
+static void make_zoned_level(void *of) {
+    struct call *c = of;
+    c->given = lvs_zoned_level(c->sheet, c->len, c->zones, c->zones_len, c->x, c->y, &c->level);
+}
+
+static void make_fill_zoned_run(void *of) {
+    struct call *c = of;
+    c->given = lvs_fill_zoned_run(c->sheet, c->len, c->zones, c->zones_len, c->x, c->y, c->levels, c->count);
+}
+
 static void expect(const char *called, size_t size, void (*make)(void *), struct call call, size_t given) {
     name = called;
     on_stack(size, make, &call);
@@ -145,6 +157,8 @@ static void refused(uint8_t *sheet, size_t len, enum lvs_refusal number) {
     EXPECT(read, LVS_STACK, number, SHEET);
     EXPECT(bends, LVS_STACK, number, SHEET, .places = LVS_BEND_PLACES);
     EXPECT(fill_run, LVS_STACK, number, SHEET, .levels = levels, .count = 4);
+    EXPECT(zoned_level, LVS_STACK, number, SHEET);
+    EXPECT(fill_zoned_run, LVS_STACK, number, SHEET, .levels = levels, .count = 4);
 }
 
 /* An accepted sheet, with so many lines each way that lie `gap` apart, pooled with a flat one: done, and refused by each condition of its own. */
@@ -180,6 +194,33 @@ static void bent(uint8_t *sheet, size_t len, uint32_t gap, uint32_t last) {
     EXPECT(bends, LVS_STACK, LVS_FEW_PLACES, SHEET, .places = LVS_BEND_PLACES - 1);
 }
 
+/* Zoned levels and runs of an accepted sheet whose last lines lie at `last`, its rows cut by the borders of up to 16 zones: done, and refused by each condition of
+ * its own. */
+static void zoned(uint8_t *sheet, size_t len, uint32_t last) {
+    static int32_t levels[LVS_MAX_RUN];
+    static uint8_t zones[LVS_MAX_ZONES * LVS_ZONE_SIZE + 1];
+    const uint32_t row = last + 1;
+    size_t zones_len = 0;
+    for (int32_t k = 0, width = (int32_t)last / (2 * LVS_MAX_ZONES + 1); k < LVS_MAX_ZONES; k++) {
+        int32_t left = (2 * k + 1) * width;
+        zones_len = write_zone(zones, zones_len, (const int32_t[]){left, k, left + width, 65535 - k, k - 4095, k});
+    }
+    for (uint32_t y = 0; y <= last; y += 1 + last / 17) {
+        for (size_t used = 0; used <= zones_len; used += 4 * LVS_ZONE_SIZE) {
+            EXPECT(zoned_level, LVS_STACK, LVS_DONE, SHEET, .zones = zones, .zones_len = used, .x = last - y, .y = y);
+            EXPECT(fill_zoned_run, LVS_STACK, LVS_DONE, SHEET, .zones = zones, .zones_len = used, .y = y, .levels = levels, .count = row);
+        }
+    }
+    EXPECT(zoned_level, LVS_STACK, LVS_OUTSIDE, SHEET, .zones = zones, .zones_len = zones_len, .x = last + 1);
+    EXPECT(zoned_level, LVS_STACK, LVS_ZONE_LIST, SHEET, .zones = zones, .zones_len = zones_len + 1);
+    EXPECT(fill_zoned_run, LVS_STACK, LVS_OUTSIDE, SHEET, .zones = zones, .zones_len = zones_len, .x = 1, .levels = levels, .count = row);
+    EXPECT(fill_zoned_run, LVS_STACK, LVS_EMPTY_RUN, SHEET, .zones = zones, .zones_len = zones_len);
+    EXPECT(fill_zoned_run, LVS_STACK, LVS_ZONE_LIST, SHEET, .zones = zones, .zones_len = zones_len - 1, .levels = levels, .count = row);
+    word(zones, zones_len - 2, 4096); /* the last ceiling */
+    EXPECT(zoned_level, LVS_STACK, LVS_ZONE, SHEET, .zones = zones, .zones_len = zones_len);
+    EXPECT(fill_zoned_run, LVS_STACK, LVS_ZONE, SHEET, .zones = zones, .zones_len = zones_len, .levels = levels, .count = row);
+}
+
 /* Every call on an accepted sheet with so many lines each way, the last at `last`: done, and refused by each condition of its own. */
 static void accepted(uint8_t *sheet, size_t len, uint32_t lines, uint32_t last) {
     static int32_t levels[LVS_MAX_RUN];
@@ -203,6 +244,7 @@ static void accepted(uint8_t *sheet, size_t len, uint32_t lines, uint32_t last) 
     EXPECT(read, LVS_STACK, LVS_KIND, SHEET, .kind = LVS_BEND + 1);
     EXPECT(fill_run, LVS_STACK, LVS_OUTSIDE, SHEET, .x = 1, .levels = levels, .count = last + 1);
     EXPECT(fill_run, LVS_STACK, LVS_EMPTY_RUN, SHEET, .levels = levels, .count = 0);
+    zoned(sheet, len, last);
     bent(sheet, len, last / (lines - 1), last);
     pooled(sheet, len, (uint8_t)lines, (uint16_t)(last / (lines - 1)));
     filled(sheet, len, last / (lines - 1));

@@ -1,4 +1,4 @@
-//! The archive's nine calls, bare, as its C header has them.
+//! The archive's eleven calls, bare, as its C header has them.
 //!
 //! Each gives 0 or the number of a refusal, but for [`lvs_node_offset`].
 //! None keeps, allocates or shares anything.
@@ -6,9 +6,9 @@
 //! # Safety
 //!
 //! `sheet` must be fit to be read for `len` bytes (and to be written by [`lvs_set_node`] and
-//! [`lvs_fill_slopes`]), `first` for `first_len` and `second` for `second_len`. `target` must be fit
-//! to be written for `target_len` bytes, `values` for three numbers, `levels` for `count`, `bends`
-//! for `places` and `pieces` for one.
+//! [`lvs_fill_slopes`]), `first` for `first_len`, `second` for `second_len` and `zones` for
+//! `zones_len`. `target` must be fit to be written for `target_len` bytes, `values` for three
+//! numbers, `levels` for `count`, `bends` for `places`, `pieces` and `level` for one.
 //! Pointers are aligned for their type; with a length of 0 one is never followed and may be null.
 //! Memory that a call may write is lent to it alone.
 
@@ -72,6 +72,29 @@ extern "C" {
     pub fn lvs_fill_run(
         sheet: *const u8,
         len: usize,
+        x: u32,
+        y: u32,
+        levels: *mut i32,
+        count: usize,
+    ) -> u32;
+
+    /// Gives the zoned level at a pixel, in grains.
+    pub fn lvs_zoned_level(
+        sheet: *const u8,
+        len: usize,
+        zones: *const u8,
+        zones_len: usize,
+        x: u32,
+        y: u32,
+        level: *mut i32,
+    ) -> u32;
+
+    /// Fills a run of zoned levels, in grains, along a row.
+    pub fn lvs_fill_zoned_run(
+        sheet: *const u8,
+        len: usize,
+        zones: *const u8,
+        zones_len: usize,
         x: u32,
         y: u32,
         levels: *mut i32,

@@ -62,6 +62,14 @@
 //! assert_eq!(light_sheet::level(&all, 0, 0)?, 4.0);
 //! assert_eq!(light_sheet::level(&all, 2, 0)?, 3.0);
 //!
+//! // Subtitles need a floor of light: here three steps over the lower rows, and the highest ceiling there is.
+//! let (floor, ceiling) = (3, 4095);
+//! let subtitles = light_sheet::Zone { left: 0, top: 1, right: 2, bottom: 2, floor, ceiling };
+//! let zones = subtitles.to_bytes();
+//! assert_eq!(light_sheet::zoned_level(&sheet, &zones, 0, 0)?, 64);
+//! light_sheet::fill_zoned_run(&sheet, &zones, 0, 2, &mut levels)?;
+//! assert_eq!(levels, [192; 3]);
+//!
 //! assert_eq!(light_sheet::level(&sheet, 3, 0), Err(light_sheet::Refusal::Pixel));
 //! # Ok(())
 //! # }
@@ -74,11 +82,17 @@ mod refusal;
 
 pub use refusal::Refusal;
 
-/// Grains in a step: runs and slopes are in grains, heights and levels in steps.
+/// Grains in a step: runs, zoned levels and slopes are in grains; heights, levels and the limits of
+/// zones in steps.
 pub const GRAINS_PER_STEP: i32 = 64;
 
 /// Places that [`bends`] asks for: at most eight pieces touch a pixel, three numbers each.
 pub const BEND_PLACES: usize = 24;
+
+/// Bytes of a zone.
+pub const ZONE_SIZE: usize = 12;
+/// The most zones that a list can have.
+pub const MAX_ZONES: usize = 16;
 
 /// Reading kind 0: the level.
 pub const LEVEL: u32 = 0;
@@ -107,6 +121,35 @@ pub enum Reading {
     Tilt([f64; 2]),
     /// Kind 2: the bend, xx, xy, yy, as [`bend`] gives it.
     Bend([f64; 3]),
+}
+
+/// A zone of the screen, with a floor and a ceiling for the levels in it. It may lie off the mesh.
+#[derive(Clone, Copy, Debug, Default, PartialEq, Eq, Hash)]
+pub struct Zone {
+    /// Its first column of pixels.
+    pub left: u16,
+    /// Its first row of pixels.
+    pub top: u16,
+    /// Its last column of pixels, not below `left`.
+    pub right: u16,
+    /// Its last row of pixels, not below `top`.
+    pub bottom: u16,
+    /// The least light, in steps, −4,095 to 4,095.
+    pub floor: i16,
+    /// The most light, in steps, not below `floor`, −4,095 to 4,095.
+    pub ceiling: i16,
+}
+
+impl Zone {
+    /// The zone as it stands in a list.
+    pub fn to_bytes(self) -> [u8; ZONE_SIZE] {
+        let [left, top] = [self.left, self.top].map(u16::to_le_bytes);
+        let [right, bottom] = [self.right, self.bottom].map(u16::to_le_bytes);
+        let [floor, ceiling] = [self.floor, self.ceiling].map(i16::to_le_bytes);
+        let mut bytes = [0; ZONE_SIZE];
+        bytes.copy_from_slice([left, top, right, bottom, floor, ceiling].as_flattened());
+        bytes
+    }
 }
 
 /// Checks a sheet: refusals 1 to 6. Every other call makes the same checks first.
@@ -225,6 +268,43 @@ pub fn fill_run(sheet: &[u8], x: u32, y: u32, levels: &mut [i32]) -> Result<(), 
     let (places, count) = (levels.as_mut_ptr(), levels.len());
     // SAFETY: both slices are lent for their whole length; `levels` to this call alone.
     answer(unsafe { ffi::lvs_fill_run(sheet.as_ptr(), sheet.len(), x, y, places, count) })
+}
+
+/// The zoned level at a pixel, in grains: the level, as the zones that hold the pixel raise and
+/// lower it.
+///
+/// `zones` is a list of up to [`MAX_ZONES`] zones, each as [`Zone::to_bytes`] gives it; it may be
+/// empty. Each zone that holds the pixel, in the order of the list, raises the level to its floor
+/// if it is below, then lowers it to its ceiling if it is above. Where zones lie over each other,
+/// the last one that holds the pixel has its limits kept; the level may pass those of an earlier
+/// one.
+pub fn zoned_level(sheet: &[u8], zones: &[u8], x: u32, y: u32) -> Result<i32, Refusal> {
+    let (start, len) = (zones.as_ptr(), zones.len());
+    let mut level = 0;
+    // SAFETY: both slices are lent for their whole length and only read; `level` to this call alone.
+    answer(unsafe {
+        ffi::lvs_zoned_level(sheet.as_ptr(), sheet.len(), start, len, x, y, &mut level)
+    })?;
+    Ok(level)
+}
+
+/// Fills `levels` along a row, one per pixel to the right from (x, y): each is what [`zoned_level`]
+/// gives there.
+///
+/// The row grows by stretches, each of pixels that the same zones hold.
+pub fn fill_zoned_run(
+    sheet: &[u8],
+    zones: &[u8],
+    x: u32,
+    y: u32,
+    levels: &mut [i32],
+) -> Result<(), Refusal> {
+    let (start, len) = (zones.as_ptr(), zones.len());
+    let (places, count) = (levels.as_mut_ptr(), levels.len());
+    // SAFETY: all three slices are lent for their whole length; `levels` to this call alone.
+    answer(unsafe {
+        ffi::lvs_fill_zoned_run(sheet.as_ptr(), sheet.len(), start, len, x, y, places, count)
+    })
 }
 
 /// The values of a reading; those beyond the kind's count are 0.

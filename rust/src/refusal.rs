@@ -1,4 +1,4 @@
-//! Why a call declines: the seventeen conditions, by name and number.
+//! Why a call declines: the nineteen conditions, by name and number.
 
 use std::error::Error;
 use std::fmt;
@@ -44,11 +44,15 @@ pub enum Refusal {
     OtherLines = 16,
     /// 17: the target is not as long as the first sheet.
     Target = 17,
+    /// 18: a list of zones not a multiple of 12 bytes long, or longer than 192.
+    ZoneList = 18,
+    /// 19: a zone with left above right, top above bottom or floor above ceiling, or with a limit outside -4095 to 4095.
+    Zone = 19,
 }
 
 impl Refusal {
-    /// All seventeen, in order of number.
-    pub const ALL: [Refusal; 17] = [
+    /// All nineteen, in order of number.
+    pub const ALL: [Refusal; 19] = [
         Refusal::Mark,
         Refusal::Version,
         Refusal::Counts,
@@ -66,9 +70,11 @@ impl Refusal {
         Refusal::Second,
         Refusal::OtherLines,
         Refusal::Target,
+        Refusal::ZoneList,
+        Refusal::Zone,
     ];
 
-    /// The number of the condition, 1 to 17.
+    /// The number of the condition, 1 to 19.
     pub fn number(self) -> u32 {
         self as u32
     }
@@ -100,6 +106,13 @@ impl Refusal {
             Refusal::Second => "the second sheet would be refused itself",
             Refusal::OtherLines => "the lines of the two sheets differ",
             Refusal::Target => "the target is not as long as the first sheet",
+            Refusal::ZoneList => {
+                "the list of zones is not a multiple of 12 bytes long, or longer than 192"
+            }
+            Refusal::Zone => {
+                "a zone has left above right, top above bottom, floor above ceiling, \
+                 or a limit outside -4095 to 4095"
+            }
         }
     }
 }

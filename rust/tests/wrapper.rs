@@ -3,7 +3,7 @@
 use std::error::Error;
 use std::{ptr, thread};
 
-use light_sheet::{ffi, Node, Reading, Refusal};
+use light_sheet::{ffi, Node, Reading, Refusal, Zone};
 
 /// Lines 0 and 2 across, 1, 3 and 4 down; every number differs from every other.
 fn sheet() -> Vec<u8> {
@@ -34,7 +34,7 @@ fn node_at(column: u32, row: u32) -> Node {
 }
 
 /// The refusals, their numbers and their words.
-const REFUSALS: [(Refusal, u32, &str); 17] = [
+const REFUSALS: [(Refusal, u32, &str); 19] = [
     (Refusal::Mark, 1, "fewer than 8 bytes, or another mark than LVS"),
     (Refusal::Version, 2, "the sheet's version is not 1"),
     (Refusal::Counts, 3, "a count of lines is outside 2 to 65, or byte 7 is not 0"),
@@ -52,6 +52,17 @@ const REFUSALS: [(Refusal, u32, &str); 17] = [
     (Refusal::Second, 15, "the second sheet would be refused itself"),
     (Refusal::OtherLines, 16, "the lines of the two sheets differ"),
     (Refusal::Target, 17, "the target is not as long as the first sheet"),
+    (
+        Refusal::ZoneList,
+        18,
+        "the list of zones is not a multiple of 12 bytes long, or longer than 192",
+    ),
+    (
+        Refusal::Zone,
+        19,
+        "a zone has left above right, top above bottom, floor above ceiling, \
+         or a limit outside -4095 to 4095",
+    ),
 ];
 
 #[test]
@@ -70,6 +81,10 @@ fn functions_have_their_types() {
     let _: fn(&[u8], u32, u32, u32) -> Result<Reading, Refusal> = light_sheet::read;
     let _: fn(&[u8], u32, u32, &mut [i64]) -> Result<usize, Refusal> = light_sheet::bends;
     let _: fn(&[u8], u32, u32, &mut [i32]) -> Result<(), Refusal> = light_sheet::fill_run;
+    let _: fn(&[u8], &[u8], u32, u32) -> Result<i32, Refusal> = light_sheet::zoned_level;
+    let _: fn(&[u8], &[u8], u32, u32, &mut [i32]) -> Result<(), Refusal> =
+        light_sheet::fill_zoned_run;
+    let _: fn(Zone) -> [u8; 12] = Zone::to_bytes;
     let _: fn(Refusal) -> u32 = Refusal::number;
     let _: fn(u32) -> Option<Refusal> = Refusal::from_number;
 }
@@ -83,7 +98,7 @@ fn refusals_have_their_numbers_and_words() {
         assert_eq!(Refusal::from_number(number), Some(refusal));
         assert_eq!(refusal.to_string(), format!("{words} (refusal {number})"));
     }
-    for number in [0, 18, 257, 65_537, u32::MAX] {
+    for number in [0, 20, 257, 65_537, u32::MAX] {
         assert_eq!(Refusal::from_number(number), None);
     }
 }
@@ -132,7 +147,14 @@ fn assert_refused(sheet: &mut [u8], refusal: Refusal) {
     assert_eq!(light_sheet::read(sheet, 0, 1, light_sheet::LEVEL), Err(refusal));
     assert_eq!(light_sheet::bends(sheet, 0, 1, &mut [0; 24]), Err(refusal));
     assert_eq!(light_sheet::fill_run(sheet, 0, 1, &mut [0; 3]), Err(refusal));
+    for zones in [&[] as &[u8], &[0; 5], &UPSIDE_DOWN.to_bytes()] {
+        assert_eq!(light_sheet::zoned_level(sheet, zones, 0, 1), Err(refusal));
+        assert_eq!(light_sheet::fill_zoned_run(sheet, zones, 0, 1, &mut [0; 3]), Err(refusal));
+    }
 }
+
+/// No zone: its top is below its bottom.
+const UPSIDE_DOWN: Zone = Zone { left: 0, top: 3, right: 2, bottom: 2, floor: 0, ceiling: 1 };
 
 #[test]
 fn wrong_calls_are_refused_by_name() {
@@ -412,6 +434,81 @@ fn bends_at_an_inner_node_are_as_worked_out() {
 }
 
 #[test]
+fn a_zone_has_its_bytes() {
+    let zone = Zone { left: 1, top: 0x203, right: 0xfffe, bottom: 4096, floor: -4095, ceiling: 7 };
+    assert_eq!(zone.to_bytes(), [1, 0, 3, 2, 0xfe, 0xff, 0, 16, 0x01, 0xf0, 7, 0]);
+}
+
+/// An exit lamp over the left top of sheet A, and subtitles from its middle on to beyond the mesh.
+const LAMP: Zone = Zone { left: 0, top: 0, right: 1, bottom: 1, floor: -4095, ceiling: 0 };
+const SUBTITLES: Zone =
+    Zone { left: 1, top: 1, right: 65_535, bottom: 65_535, floor: 1, ceiling: 4095 };
+
+/// The levels of sheet A are 64 32 0, 32 16 0 and 0 0 0. Both zones hold its middle, where the later
+/// one has the last word.
+#[test]
+fn zoned_levels_are_as_worked_out() {
+    let a = sheet_with(&[0, 2], &[0, 2], 0, 0, HIGH);
+    let [lamp, subtitles] = [LAMP, SUBTITLES].map(Zone::to_bytes);
+    assert_zoned(&a, &[], [[64, 32, 0], [32, 16, 0], [0, 0, 0]]);
+    assert_zoned(&a, &lamp, [[0, 0, 0], [0, 0, 0], [0, 0, 0]]);
+    assert_zoned(&a, &subtitles, [[64, 32, 0], [32, 64, 64], [0, 64, 64]]);
+    assert_zoned(&a, &[lamp, subtitles].concat(), [[0, 0, 0], [0, 64, 64], [0, 64, 64]]);
+    assert_zoned(&a, &[subtitles, lamp].concat(), [[0, 0, 0], [0, 0, 64], [0, 64, 64]]);
+}
+
+/// The zoned levels of a sheet with lines 0 and 2 both ways, pixel by pixel and row by row.
+fn assert_zoned(sheet: &[u8], zones: &[u8], rows: [[i32; 3]; 3]) {
+    for (y, row) in (0..).zip(rows) {
+        let mut levels = [7; 3];
+        light_sheet::fill_zoned_run(sheet, zones, 0, y, &mut levels).unwrap();
+        assert_eq!(levels, row);
+        for (x, level) in (0..).zip(row) {
+            assert_eq!(light_sheet::zoned_level(sheet, zones, x, y), Ok(level));
+        }
+    }
+}
+
+#[test]
+fn wrong_zones_are_refused_by_name() {
+    let sheet = sheet();
+    let off_the_mesh = Zone { left: 9, right: 9, ..LAMP };
+    let lists = [off_the_mesh.to_bytes(); 17];
+    for zones in [0, 1, 16].map(|count| lists[..count].as_flattened()) {
+        assert_eq!(light_sheet::zoned_level(&sheet, zones, 0, 1), Ok(-4095 * 64));
+        assert_eq!(light_sheet::zoned_level(&sheet, zones, 3, 1), Err(Refusal::Pixel));
+    }
+    for count in [1, 11, 13, 191, 193, 204] {
+        assert_zones_refused(&sheet, &lists.as_flattened()[..count], Refusal::ZoneList);
+    }
+    for wrong in [
+        Zone { left: 2, ..LAMP },
+        UPSIDE_DOWN,
+        Zone { floor: 1, ..LAMP },
+        Zone { floor: -4096, ..LAMP },
+        Zone { ceiling: 4096, ..LAMP },
+    ] {
+        let zones = [off_the_mesh, wrong].map(Zone::to_bytes);
+        assert_zones_refused(&sheet, zones.as_flattened(), Refusal::Zone);
+        assert_zones_refused(&sheet, &zones.as_flattened()[..23], Refusal::ZoneList);
+    }
+}
+
+/// Both calls are refused for their zones, but after the pixel and the run.
+fn assert_zones_refused(sheet: &[u8], zones: &[u8], refusal: Refusal) {
+    let mut levels = [7; 3];
+    assert_eq!(light_sheet::zoned_level(sheet, zones, 0, 1), Err(refusal));
+    assert_eq!(light_sheet::zoned_level(sheet, zones, 3, 1), Err(Refusal::Pixel));
+    let mut fill = |x: u32, count: usize| {
+        light_sheet::fill_zoned_run(sheet, zones, x, 1, &mut levels[..count])
+    };
+    assert_eq!(fill(0, 3), Err(refusal));
+    assert_eq!(fill(0, 0), Err(Refusal::EmptyRun));
+    assert_eq!(fill(1, 3), Err(Refusal::Pixel));
+    assert_eq!(levels, [7; 3], "a refused run changes nothing");
+}
+
+#[test]
 fn a_refused_call_changes_nothing() {
     let mut kept = sheet();
     let too_high = Node { height: 4096, ..Node::default() };
@@ -448,13 +545,18 @@ fn empty_slices_are_refused() {
     assert_eq!(light_sheet::fill_run(&[], 0, 0, &mut []), Err(Refusal::Mark));
     assert_eq!(light_sheet::fill_run(&sheet(), 0, 1, &mut []), Err(Refusal::EmptyRun));
     assert_eq!(light_sheet::fill_run(&sheet(), 0, 0, &mut []), Err(Refusal::Pixel));
+    assert_eq!(light_sheet::zoned_level(&[], &[], 0, 0), Err(Refusal::Mark));
+    assert_eq!(light_sheet::fill_zoned_run(&[], &[], 0, 0, &mut []), Err(Refusal::Mark));
+    assert_eq!(light_sheet::fill_zoned_run(&sheet(), &[], 0, 1, &mut []), Err(Refusal::EmptyRun));
 }
 
 #[test]
 fn nothing_may_be_lent_by_null() {
     let (sheet, row, bends) = (ptr::null_mut(), ptr::null_mut(), ptr::null_mut());
-    let (mut values, mut pieces) = ([0.5; 3], 77);
-    // SAFETY: no bytes and no places are lent but the three values and the count of pieces.
+    let zones = ptr::null();
+    let (mut values, mut pieces, mut level) = ([0.5; 3], 77, 88);
+    // SAFETY: no bytes and no places are lent but a sheet, the three values, the count of pieces and
+    // a level.
     unsafe {
         assert_eq!(ffi::lvs_check(sheet, 0), 1);
         assert_eq!(ffi::lvs_node_refusal(sheet, 0, 0, 0), 1);
@@ -471,6 +573,12 @@ fn nothing_may_be_lent_by_null() {
         assert_eq!(ffi::lvs_fill_run(lent, len, 0, 1, row, 0), 8);
         assert_eq!(ffi::lvs_bends(sheet, 0, 0, 0, bends, 0, &mut pieces), 1);
         assert_eq!(ffi::lvs_bends(lent, len, 0, 1, bends, 0, &mut pieces), 14);
+        assert_eq!(ffi::lvs_zoned_level(sheet, 0, zones, 0, 0, 0, &mut level), 1);
+        assert_eq!(ffi::lvs_fill_zoned_run(sheet, 0, zones, 0, 0, 0, row, 0), 1);
+        assert_eq!(ffi::lvs_fill_zoned_run(lent, len, zones, 0, 0, 1, row, 0), 8);
+        assert_eq!(level, 88);
+        assert_eq!(ffi::lvs_zoned_level(lent, len, zones, 0, 0, 1, &mut level), 0);
+        assert_eq!(level, -4095 * 64);
     }
     assert_eq!((values, pieces), ([0.5; 3], 77));
 }

@@ -10,8 +10,10 @@ ghost use Rattle.surface_answers.specs.Answers.{outcome};
 ghost use Rattle.surface_of_sheet.specs.Read.{read};
 ghost use Rattle.surface_of_sheet.specs.Run.{filled};
 ghost use Rattle.surface_bends.specs.Bends.{tally, counted, withBends};
+ghost use Rattle.surface_zones.specs.Zoned.{zonedOutcome, zonedAnswer, zonedRunRefusal, zonedFilled};
 use surface_answers::Answer;
 use surface_bends::Listed;
+use surface_zones::Zoned;
 
 // Checks a sheet: 0 where it is accepted, else the number of the first of the conditions 1 to 6 that holds.
 pub fn check(sheet: &[u8]) -> u32
@@ -101,4 +103,25 @@ pub fn fill_run(sheet: &[u8], x: u32, y: u32, levels: &mut [i32]) -> u32
     ensures kept { λ r. ⌜ now (sheet .exit) ≡ now (sheet .entry) ⌝ }
 {
     surface_filling::fill_run(sheet, x, y, levels)
+}
+
+// The zoned level at the pixel (x, y), in grains: the level, which each zone of the list that holds the pixel, in list order, raises to its floor if below, then
+// lowers to its ceiling if above; or `Refused` with the number (1 to 6, 7, 18, 19).
+pub fn zoned_level(sheet: &[u8], zones: &[u8], x: u32, y: u32) -> Zoned
+    ensures answer { λ r. ⌜ zonedOutcome r ≡ zonedAnswer (now (sheet .entry)) (now (zones .entry)) x y ⌝ }
+    ensures sheet { λ r. ⌜ now (sheet .exit) ≡ now (sheet .entry) ⌝ }
+    ensures zones { λ r. ⌜ now (zones .exit) ≡ now (zones .entry) ⌝ }
+{
+    surface_zoning::zoned_level(sheet, zones, x, y)
+}
+
+// Fills the lent row with the zoned levels at the pixel (x, y) and at those to its right, one for each slot, in grains, and answers 0; or, refused (1 to 6, 7, 8,
+// 18, 19), answers the number and leaves the row as it was.
+pub fn fill_zoned_run(sheet: &[u8], zones: &[u8], x: u32, y: u32, levels: &mut [i32]) -> u32
+    ensures answer { λ r. ⌜ r ≡ zonedRunRefusal (now (sheet .entry)) (now (zones .entry)) x y (length (now (levels .entry))) ⌝ }
+    ensures levels { λ r. ⌜ now (levels .exit) ≡ zonedFilled (now (sheet .entry)) (now (zones .entry)) x y (now (levels .entry)) ⌝ }
+    ensures sheet { λ r. ⌜ now (sheet .exit) ≡ now (sheet .entry) ⌝ }
+    ensures zones { λ r. ⌜ now (zones .exit) ≡ now (zones .entry) ⌝ }
+{
+    surface_zoning::fill_zoned_run(sheet, zones, x, y, levels)
 }

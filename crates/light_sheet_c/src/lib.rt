@@ -12,8 +12,10 @@ ghost use Rattle.sheet_pool.specs.Pool.{poolRefusal, withPool};
 ghost use Rattle.surface_of_sheet.specs.Read.{read};
 ghost use Rattle.surface_of_sheet.specs.Run.{filled};
 ghost use Rattle.surface_bends.specs.Bends.{counted, withBends};
-ghost use Rattle.light_sheet_c.specs.Values.{bits, over, countOver};
+ghost use Rattle.surface_zones.specs.Zoned.{zonedAnswer, zonedRunRefusal, zonedFilled};
+ghost use Rattle.light_sheet_c.specs.Values.{bits, over, countOver, levelOver};
 use surface_bends::Listed;
+use surface_zones::Zoned;
 
 // Checks a sheet: 0 where it is accepted, else the number of the first of the conditions 1 to 6 that holds.
 #[no_mangle]
@@ -132,4 +134,47 @@ pub extern "C" fn lvs_fill_run(sheet: &[u8], x: u32, y: u32, levels: &mut [i32])
     ensures kept { λ r. ⌜ now (sheet .exit) ≡ now (sheet .entry) ⌝ }
 {
     light_sheet::fill_run(sheet, x, y, levels)
+}
+
+// Writes the zoned level at the pixel (x, y), in grains, to `level`, and answers 0: the level, which each zone of the list that holds the pixel, in list order,
+// raises to its floor if below, then lowers to its ceiling if above. Refused (1 to 6, 7, 18, 19), it answers the number, and `level` keeps its contents.
+#[no_mangle]
+pub extern "C" fn lvs_zoned_level(
+    sheet: &[u8],
+    zones: &[u8],
+    x: u32,
+    y: u32,
+    level: &mut i32,
+) -> u32
+    ensures answer { λ r. ⌜ r ≡ zonedAnswer (now (sheet .entry)) (now (zones .entry)) x y .number ⌝ }
+    ensures level { λ r. ⌜ now (level .exit) ≡ levelOver (zonedAnswer (now (sheet .entry)) (now (zones .entry)) x y) (now (level .entry)) ⌝ }
+    ensures sheet { λ r. ⌜ now (sheet .exit) ≡ now (sheet .entry) ⌝ }
+    ensures zones { λ r. ⌜ now (zones .exit) ≡ now (zones .entry) ⌝ }
+{
+    let zoned = light_sheet::zoned_level(sheet, zones, x, y);
+    match zoned {
+        Zoned::Level(grains) => {
+            *level = grains;
+            0
+        }
+        Zoned::Refused(number) => number,
+    }
+}
+
+// Fills the lent row with the zoned levels at the pixel (x, y) and at those to its right, one for each slot, in grains, and answers 0; or, refused (1 to 6, 7, 8,
+// 18, 19), answers the number and leaves the row as it was.
+#[no_mangle]
+pub extern "C" fn lvs_fill_zoned_run(
+    sheet: &[u8],
+    zones: &[u8],
+    x: u32,
+    y: u32,
+    levels: &mut [i32],
+) -> u32
+    ensures answer { λ r. ⌜ r ≡ zonedRunRefusal (now (sheet .entry)) (now (zones .entry)) x y (length (now (levels .entry))) ⌝ }
+    ensures levels { λ r. ⌜ now (levels .exit) ≡ zonedFilled (now (sheet .entry)) (now (zones .entry)) x y (now (levels .entry)) ⌝ }
+    ensures sheet { λ r. ⌜ now (sheet .exit) ≡ now (sheet .entry) ⌝ }
+    ensures zones { λ r. ⌜ now (zones .exit) ≡ now (zones .entry) ⌝ }
+{
+    light_sheet::fill_zoned_run(sheet, zones, x, y, levels)
 }

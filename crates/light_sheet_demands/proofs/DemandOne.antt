@@ -13,12 +13,14 @@ use Rattle.sheet_pool.proofs.Laws.{pool-laws}
 use Rattle.surface_of_sheet.proofs.Runs.{run-laws}
 use Rattle.surface_bends.specs.declared.Listed.the-variants.{Refused}
 use Rattle.surface_bends.proofs.Laws.{bend-laws}
+use Rattle.surface_zones.proofs.Laws.{zoned-laws}
 use Rattle.light_sheet_c.proofs.Stored.{over-size, over-behind}
 use Rattle.light_sheet_demands.specs.Demands.{DemandOne}
-use Rattle.light_sheet_demands.proofs.Refusals.{check-gives, lookup-gives, setting-gives, slopes-gives, pool-gives, reading-gives, bends-gives, run-gives}
+use Rattle.light_sheet_demands.proofs.Refusals.{check-gives, lookup-gives, setting-gives, slopes-gives, pool-gives, reading-gives, bends-gives, run-gives, zoned-gives, zoned-run-gives}
 use Rattle.light_sheet_demands.proofs.Readings.{refused-reading, no-values, few-words, none-stored}
 use Rattle.light_sheet_demands.proofs.Slopes.{kept}
 use Rattle.light_sheet_demands.proofs.Lists.{refused-list, behind-list, buffer-kept, count-written, count-kept}
+use Rattle.light_sheet_demands.proofs.ZonedLevels.{refused-level, level-kept, level-written}
 
 pub demand-one : DemandOne
 demand-one = record {
@@ -32,6 +34,9 @@ demand-one = record {
   keptByNodeOffset = λ c. c .sheet;
   keptByReadInto = λ c. c .isRead .sheet;
   keptByBendsInto = λ c. c .isListed .sheet;
+  keptByZonedLevel = λ c. (c .sheet, c .zones);
+  keptByZonedRun = λ c. (c .sheet, c .zones);
+  keptByZonedInto = λ c. (c .isZoned .sheet, c .isZoned .zones);
   sheetSize = λ c. rw (c .sheet) (setting-laws .leaves _ _ _ _ .size);
   beforeNode = λ c. rw (c .sheet) (setting-laws .leaves _ _ _ _ .before);
   afterNode = λ c. rw (c .sheet) (setting-laws .leaves _ _ _ _ .after);
@@ -43,6 +48,10 @@ demand-one = record {
   poolRefused = λ c h. c .pool ∙ pool-laws .refused _ _ _ (λ e. h (c .answer ∙ e));
   rowSize = λ c. rw (c .levels) (run-laws .size _ _ _ _);
   rowRefused = λ c h. c .levels ∙ run-laws .refused _ _ _ _ (λ e. h (c .answer ∙ e));
+  zonedRowSize = λ c. rw (c .levels) (zoned-laws .size _ _ _ _ _);
+  zonedRowRefused = λ c h. c .levels ∙ zoned-laws .untouched _ _ _ _ _ (λ e. h (c .answer ∙ e));
+  zonedIntoLevel = level-written;
+  zonedIntoRefused = level-kept;
   bufferSize = λ c. rw (c .list) (bend-laws .buffer _ _ _ _);
   bufferBehind = behind-list;
   bufferRefused = buffer-kept;
@@ -62,9 +71,13 @@ demand-one = record {
   bends = bends-gives;
   bendsInto = λ c. rw (c .answer) (bends-gives (c .isListed));
   run = run-gives;
+  zonedLevel = zoned-gives;
+  zonedInto = λ c. rw (c .answer) (zoned-gives (c .isZoned));
+  zonedRun = zoned-run-gives;
   refusedReading = λ c. refused-reading c;
   noValues = no-values;
   refusedBends = λ c e h. refused-list c (λ z. h (sym e ∙ z)) ∙ ap Refused e;
+  refusedZoned = λ c. refused-level c;
   emptyPart = λ c d h.
       let p = subst (Part _ _) (lookup-laws .refused _ _ _ (λ e. h (d .answer ∙ e))) (c .part) in
       (c .part .bytes ∙ lookup-laws .none _ _ _ (λ e. h (d .answer ∙ e)), p .block, omega (arith, p .address));

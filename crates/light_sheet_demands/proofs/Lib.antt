@@ -16,3 +16,6 @@ pub mod PoolRefusals
 pub mod Pooling
 pub mod Nudged
 pub mod Reach
+pub mod ZonedLevels
+pub mod ZonedRefusals
+pub mod Zones

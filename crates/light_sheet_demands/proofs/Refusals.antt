@@ -14,14 +14,17 @@ use Rattle.sheet_calls.specs.Refusals.{sheetRules, checkRules, checkRefusal, lo
 use Rattle.sheet_calls.proofs.Rules.{after-failing, rule-laws, nonzero, numbered}
 use Rattle.sheet_slopes.specs.Slopes.{slopeRules, slopeRefusal}
 use Rattle.sheet_pool.specs.Pool.{poolRules, poolRefusal}
+use Rattle.sheet_zones.specs.Zones.{zoneRules}
 use Rattle.surface_answers.specs.Answers.{outcome, answered, refused}
 use Rattle.surface_answers.specs.declared.Answer.{Answer}
 use Rattle.surface_of_sheet.specs.Read.{read}
 use Rattle.surface_of_sheet.proofs.Answered.{taken-is, refused-is}
 use Rattle.surface_bends.specs.Bends.{bendsRules, bendsRefusal, tally}
 use Rattle.surface_bends.specs.declared.Listed.{Listed}
-use Rattle.light_sheet_demands.specs.Contracts.{Check, NodeRefusal, SetNode, FillSlopes, Pool, Read, ListBends, FillRun}
-use Rattle.light_sheet_demands.specs.Demands.{FirstHolds, NoneHolds, Gives, ofCheck, ofLookup, ofSetting, ofSlopes, ofPool, ofReading, ofBends, ofRun, AcceptedMeans}
+use Rattle.surface_zones.specs.Zoned.{zonedRules, zonedRefusal, zonedOutcome, zonedRunRules, zonedRunRefusal}
+use Rattle.surface_zones.specs.declared.Zoned.{Zoned}
+use Rattle.light_sheet_demands.specs.Contracts.{Check, NodeRefusal, SetNode, FillSlopes, Pool, Read, ListBends, FillRun, ZonedLevel, FillZonedRun}
+use Rattle.light_sheet_demands.specs.Demands.{FirstHolds, NoneHolds, Gives, ofCheck, ofLookup, ofSetting, ofSlopes, ofPool, ofReading, ofBends, ofRun, ofZonedLevel, ofZonedRun, AcceptedMeans}
 
 -- ---- the law of rules, in the demands' words
 
@@ -90,6 +93,16 @@ pub run-gives : {s t : List ℕ} {x y n : ℕ} {row row′ : List ℤ} → FillR
     Gives ofRun (record { sheet = s; x = x; y = y; count = length row }) n
 unfolding nonzero sheetRules runRules runRefusal
 run-gives c = gives _ _ tt (c .answer)
+
+pub zoned-gives : {s b t b′ : List ℕ} {x y : ℕ} {r : Zoned} → ZonedLevel s b x y r t b′ →
+    Gives ofZonedLevel (record { sheet = s; zones = b; x = x; y = y }) (zonedOutcome r .number)
+unfolding nonzero sheetRules zoneRules zonedRules zonedRefusal
+zoned-gives c = gives _ _ tt (c .answer)
+
+pub zoned-run-gives : {s b t b′ : List ℕ} {x y n : ℕ} {row row′ : List ℤ} → FillZonedRun s b x y row n row′ t b′ →
+    Gives ofZonedRun (record { sheet = s; zones = b; x = x; y = y; count = length row }) n
+unfolding nonzero sheetRules zoneRules zonedRunRules zonedRunRefusal
+zoned-run-gives c = gives _ _ tt (c .answer)
 
 -- an accepted sheet is one of which none of the six conditions holds
 pub accepted-means : AcceptedMeans

@@ -20,7 +20,9 @@ use Rattle.surface_of_sheet.specs.Read.{read}
 use Rattle.surface_of_sheet.specs.Run.{afterSteps, filled}
 use Rattle.surface_bends.specs.Bends.{bendsRefusal, tally, counted, withBends}
 use Rattle.surface_bends.specs.declared.Listed.{Listed}
-use Rattle.light_sheet_c.specs.Values.{bits, over, countOver}
+use Rattle.surface_zones.specs.Zoned.{zonedRefusal, zonedOutcome, zonedAnswer, zonedRunRefusal, zonedFilled}
+use Rattle.surface_zones.specs.declared.Zoned.{Zoned}
+use Rattle.light_sheet_c.specs.Values.{bits, over, countOver, levelOver}
 
 -- `check` gives n
 pub record Check (s : List ℕ) (n : ℕ) (t : List ℕ) : Type 0 where
@@ -73,6 +75,21 @@ pub record FillRun (s : List ℕ) (x y : ℕ) (row : List ℤ) (n : ℕ) (row′
   pub levels : row′ ≡ filled s x y row
   pub sheet : t ≡ s
 
+-- `zoned_level` with the zones b gives r, by the answer's definition its number and its levels, one or none; b′ is what the list of zones holds at the call's
+-- end
+pub record ZonedLevel (s b : List ℕ) (x y : ℕ) (r : Zoned) (t b′ : List ℕ) : Type 0 where
+  pub answer : zonedOutcome r .number ≡ zonedRefusal s b x y
+  pub levels : zonedOutcome r .levels ≡ zonedAnswer s b x y .levels
+  pub sheet : t ≡ s
+  pub zones : b′ ≡ b
+
+-- `fill_zoned_run` with the zones b on the row gives n and leaves row′
+pub record FillZonedRun (s b : List ℕ) (x y : ℕ) (row : List ℤ) (n : ℕ) (row′ : List ℤ) (t b′ : List ℕ) : Type 0 where
+  pub answer : n ≡ zonedRunRefusal s b x y (length row)
+  pub levels : row′ ≡ zonedFilled s b x y row
+  pub sheet : t ≡ s
+  pub zones : b′ ≡ b
+
 -- the worker of a run, `surface_runs::run`, with a budget of so many steps leaves row′
 pub record RunSteps (s : List ℕ) (x y : ℕ) (row : List ℤ) (budget : ℕ) (row′ : List ℤ) (t : List ℕ) : Type 0 where
   pub levels : row′ ≡ afterSteps s x y budget row
@@ -84,7 +101,7 @@ pub record ReachOf (input : List ℕ) (r : Reach) (t : List ℕ) : Type 0 where
   pub positions : told r .positions ≡ reachAnswer input .positions
   pub bytes : t ≡ input
 
--- the calls for C: six meet the records above, and the three below are theirs alone
+-- the calls for C: seven meet the records above, and the four below are theirs alone
 
 -- `lvs_node_offset` gives k
 pub record NodeOffset (s : List ℕ) (i j k : ℕ) (t : List ℕ) : Type 0 where
@@ -105,3 +122,11 @@ pub record BendsInto (s : List ℕ) (x y : ℕ) (buffer : List ℤ) (count n : �
   pub isListed : ListBends s x y buffer listed buffer′ t
   pub answer : n ≡ tally listed .number
   pub pieces : count′ ≡ countOver (tally listed) count
+
+-- `lvs_zoned_level` with the zones b, on a lent place that holds `held`, gives n and leaves held′ there: the refusal's number or 0, and, where 0, the zoned
+-- level
+pub record ZonedLevelInto (s b : List ℕ) (x y : ℕ) (held : ℤ) (n : ℕ) (held′ : ℤ) (t b′ : List ℕ) : Type 0 where
+  pub zoned : Zoned
+  pub isZoned : ZonedLevel s b x y zoned t b′
+  pub answer : n ≡ zonedOutcome zoned .number
+  pub level : held′ ≡ levelOver (zonedOutcome zoned) held

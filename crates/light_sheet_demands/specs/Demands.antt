@@ -29,6 +29,7 @@ use Rattle.sheet_calls.specs.WellFormed.{Inside, ConditionLaws}
 use Rattle.sheet_calls.specs.NodeLaws.{ReadsBack}
 use Rattle.sheet_slopes.specs.Slopes.{tooStiff, someTooSteep, SlopeInput}
 use Rattle.sheet_pool.specs.Pool.{secondRefused, otherLines, otherTarget, someSumOut, PoolInput}
+use Rattle.sheet_zones.specs.Zones.{otherZonesLength, wrongZones}
 use Rattle.surface_answers.specs.Answers.{Outcome, outcome, Every, divisor, quotient}
 use Rattle.surface_answers.specs.AnswerLaws.{AnswerLaws, QuotientLaws, _is_}
 use Rattle.surface_answers.specs.declared.Answer.{Answer}
@@ -40,7 +41,10 @@ use Rattle.surface_of_sheet.specs.Theorems.{HalfUnitsFrom}
 use Rattle.surface_bends.specs.Bends.{tooFew, BendsInput, tally}
 use Rattle.surface_bends.specs.declared.Listed.{Listed}
 use Rattle.surface_bends.specs.declared.Listed.the-variants as listed
-use Rattle.light_sheet_demands.specs.Contracts.{Check, NodeRefusal, NodeCall, SetNode, FillSlopes, Pool, Read, ListBends, FillRun, NodeOffset, ReadInto, BendsInto}
+use Rattle.surface_zones.specs.Zoned.{ZonedInput, ZonedRunInput, zonedOutcome}
+use Rattle.surface_zones.specs.declared.Zoned.{Zoned}
+use Rattle.surface_zones.specs.declared.Zoned.the-variants as zoned
+use Rattle.light_sheet_demands.specs.Contracts.{Check, NodeRefusal, NodeCall, SetNode, FillSlopes, Pool, Read, ListBends, FillRun, ZonedLevel, FillZonedRun, NodeOffset, ReadInto, BendsInto, ZonedLevelInto}
 
 -- ---- demand 1
 
@@ -95,6 +99,17 @@ ofRun = ofSheet (λ u. u .sheet) ++ rule 7 (λ u. offMesh (u .sheet) (u .x) (u .
 abbrev pub ofBends : List (Rule BendsInput)
 ofBends = ofSheet (λ u. u .sheet) ++ rule 7 (λ u. outside (u .sheet) (u .x) (u .y)) ∷ rule 14 (λ u. tooFew (u .places)) ∷ []
 
+-- 02's, of #106
+abbrev pub ofZonedLevel : List (Rule ZonedInput)
+ofZonedLevel =
+    ofSheet (λ u. u .sheet) ++ rule 7 (λ u. outside (u .sheet) (u .x) (u .y)) ∷ rule 18 (λ u. otherZonesLength (u .zones)) ∷
+    rule 19 (λ u. wrongZones (u .zones)) ∷ []
+
+abbrev pub ofZonedRun : List (Rule ZonedRunInput)
+ofZonedRun =
+    ofSheet (λ u. u .sheet) ++ rule 7 (λ u. offMesh (u .sheet) (u .x) (u .y) (u .count)) ∷ rule 8 (λ u. emptyRun (u .count)) ∷
+    rule 18 (λ u. otherZonesLength (u .zones)) ∷ rule 19 (λ u. wrongZones (u .zones)) ∷ []
+
 -- where the node at column i and row j starts, by 01's layout; it has six bytes
 abbrev pub nodeStart : List ℕ → ℕ → ℕ → ℕ
 nodeStart s i j = 8 + 2 * columns s + 2 * rows s + 6 * (j * columns s + i)
@@ -112,9 +127,13 @@ pub record DemandOne : Type 0 where
   pub keptByNodeOffset : {s t : List ℕ} {i j k : ℕ} → NodeOffset s i j k t → t ≡ s
   pub keptByReadInto : {s t : List ℕ} {x y kind n : ℕ} {array array′ : List ℕ} → ReadInto s x y kind array n array′ t → t ≡ s
   pub keptByBendsInto : {s t : List ℕ} {x y count n count′ : ℕ} {buffer buffer′ : List ℤ} → BendsInto s x y buffer count n buffer′ count′ t → t ≡ s
-  -- `set_node` is there to write the six bytes of a node, `fill_slopes` the last four bytes of each, `pool` all of the target, `fill_run` all slots of the
-  -- row, `bends` three places for each piece that it counts, `lvs_bends` these and the count, and `lvs_read` as many of the array as the kind has values: one,
-  -- two or three; refused, none writes. The array is stated as words of 64 bits, so a kept slot keeps every bit, whatever it holds, a NaN too
+  pub keptByZonedLevel : {s b t b′ : List ℕ} {x y : ℕ} {r : Zoned} → ZonedLevel s b x y r t b′ → (t ≡ s) × (b′ ≡ b)
+  pub keptByZonedRun : {s b t b′ : List ℕ} {x y n : ℕ} {row row′ : List ℤ} → FillZonedRun s b x y row n row′ t b′ → (t ≡ s) × (b′ ≡ b)
+  pub keptByZonedInto : {s b t b′ : List ℕ} {x y n : ℕ} {held held′ : ℤ} → ZonedLevelInto s b x y held n held′ t b′ → (t ≡ s) × (b′ ≡ b)
+  -- `set_node` is there to write the six bytes of a node, `fill_slopes` the last four bytes of each, `pool` all of the target, `fill_run` and `fill_zoned_run`
+  -- all slots of the row, `bends` three places for each piece that it counts, `lvs_bends` these and the count, `lvs_zoned_level` the level, and `lvs_read` as
+  -- many of the array as the kind has values: one, two or three; refused, none writes. The array is stated as words of 64 bits, so a kept slot keeps every bit,
+  -- whatever it holds, a NaN too
   pub sheetSize : {s t : List ℕ} {i j n : ℕ} {v : Node} → SetNode s i j v n t → length t ≡ length s
   pub beforeNode : {s t : List ℕ} {i j n : ℕ} {v : Node} → SetNode s i j v n t → (k : ℕ) → k < nodeStart s i j → byteAt t k ≡ byteAt s k
   pub afterNode : {s t : List ℕ} {i j n : ℕ} {v : Node} → SetNode s i j v n t → (k : ℕ) → nodeStart s i j + 6 ≤ k → byteAt t k ≡ byteAt s k
@@ -127,6 +146,10 @@ pub record DemandOne : Type 0 where
   pub poolRefused : {a b target p a′ b′ : List ℕ} {n : ℕ} → Pool a b target n p a′ b′ → ¬ (n ≡ 0) → p ≡ target
   pub rowSize : {s t : List ℕ} {x y n : ℕ} {row row′ : List ℤ} → FillRun s x y row n row′ t → length row′ ≡ length row
   pub rowRefused : {s t : List ℕ} {x y n : ℕ} {row row′ : List ℤ} → FillRun s x y row n row′ t → ¬ (n ≡ 0) → row′ ≡ row
+  pub zonedRowSize : {s b t b′ : List ℕ} {x y n : ℕ} {row row′ : List ℤ} → FillZonedRun s b x y row n row′ t b′ → length row′ ≡ length row
+  pub zonedRowRefused : {s b t b′ : List ℕ} {x y n : ℕ} {row row′ : List ℤ} → FillZonedRun s b x y row n row′ t b′ → ¬ (n ≡ 0) → row′ ≡ row
+  pub zonedIntoLevel : {s b t b′ : List ℕ} {x y : ℕ} {held held′ : ℤ} (c : ZonedLevelInto s b x y held 0 held′ t b′) → c .zoned ≡ zoned.Level held′
+  pub zonedIntoRefused : {s b t b′ : List ℕ} {x y n : ℕ} {held held′ : ℤ} → ZonedLevelInto s b x y held n held′ t b′ → ¬ (n ≡ 0) → held′ ≡ held
   pub bufferSize : {s t : List ℕ} {x y : ℕ} {buffer buffer′ : List ℤ} {r : Listed} → ListBends s x y buffer r buffer′ t → length buffer′ ≡ length buffer
   pub bufferBehind : {s t : List ℕ} {x y : ℕ} {buffer buffer′ : List ℤ} {r : Listed} → ListBends s x y buffer r buffer′ t → (k : ℕ) →
       3 * tally r .pieces ≤ k → (z : ℤ) → getD buffer′ k z ≡ getD buffer k z
@@ -161,12 +184,19 @@ pub record DemandOne : Type 0 where
       Gives ofBends (record { sheet = s; x = x; y = y; places = length buffer }) n
   pub run : {s t : List ℕ} {x y n : ℕ} {row row′ : List ℤ} → FillRun s x y row n row′ t →
       Gives ofRun (record { sheet = s; x = x; y = y; count = length row }) n
+  pub zonedLevel : {s b t b′ : List ℕ} {x y : ℕ} {r : Zoned} → ZonedLevel s b x y r t b′ →
+      Gives ofZonedLevel (record { sheet = s; zones = b; x = x; y = y }) (zonedOutcome r .number)
+  pub zonedInto : {s b t b′ : List ℕ} {x y n : ℕ} {held held′ : ℤ} → ZonedLevelInto s b x y held n held′ t b′ →
+      Gives ofZonedLevel (record { sheet = s; zones = b; x = x; y = y }) n
+  pub zonedRun : {s b t b′ : List ℕ} {x y n : ℕ} {row row′ : List ℤ} → FillZonedRun s b x y row n row′ t b′ →
+      Gives ofZonedRun (record { sheet = s; zones = b; x = x; y = y; count = length row }) n
   -- a reading that is refused is `Refused` with its number: it has no values
   pub refusedReading : {s t : List ℕ} {x y kind n : ℕ} {r : Answer} → Read s x y kind r t → outcome r .number ≡ n → ¬ (n ≡ 0) → r ≡ answer.Refused n
   pub noValues : {s t : List ℕ} {x y kind : ℕ} {r : Answer} → Read s x y kind r t → ¬ (outcome r .number ≡ 0) → outcome r .values ≡ []
-  -- and `bends`, refused, is `Refused` with its number
+  -- and `bends` and `zoned_level`, refused, are `Refused` with their numbers
   pub refusedBends : {s t : List ℕ} {x y n : ℕ} {buffer buffer′ : List ℤ} {r : Listed} → ListBends s x y buffer r buffer′ t → tally r .number ≡ n → ¬ (n ≡ 0) →
       r ≡ listed.Refused n
+  pub refusedZoned : {s b t b′ : List ℕ} {x y n : ℕ} {r : Zoned} → ZonedLevel s b x y r t b′ → zonedOutcome r .number ≡ n → ¬ (n ≡ 0) → r ≡ zoned.Refused n
   -- a lookup that its companion says is refused hands back a part that holds nothing, at the sheet's start; else the node's six bytes, where they lie: in the
   -- sheet's block of memory, at the node's address there
   pub emptyPart : {s r : RefT (List ℕ)} {t t′ : List ℕ} {i j n : ℕ} → NodeCall s i j r t → NodeRefusal (now s) i j n t′ → ¬ (n ≡ 0) →

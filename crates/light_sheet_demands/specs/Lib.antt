@@ -5,3 +5,4 @@ pub mod Bends
 pub mod Growing
 pub mod Pooling
 pub mod Reach
+pub mod Zones

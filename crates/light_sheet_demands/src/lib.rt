@@ -7,6 +7,7 @@ ghost use Rattle.light_sheet_demands.specs.Bends.{BothSides};
 ghost use Rattle.light_sheet_demands.specs.Growing.{RowGrows};
 ghost use Rattle.light_sheet_demands.specs.Pooling.{SheetsPooled};
 ghost use Rattle.light_sheet_demands.specs.Reach.{NodeReach};
+ghost use Rattle.light_sheet_demands.specs.Zones.{ScreenZones};
 
 pub fn demand_one() -> u64
     ensures { λ r. ⌜ (r ≡ 0) × DemandOne ⌝ }
@@ -52,6 +53,12 @@ pub fn sheets_pooled() -> u64
 
 pub fn node_reach() -> u64
     ensures { λ r. ⌜ (r ≡ 0) × NodeReach ⌝ }
+{
+    0
+}
+
+pub fn screen_zones() -> u64
+    ensures { λ r. ⌜ (r ≡ 0) × ScreenZones ⌝ }
 {
     0
 }

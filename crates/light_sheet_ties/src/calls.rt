@@ -1,8 +1,9 @@
 // The public calls, each with its record for a contract.
 ghost use Rattle.sheet_layout.specs.Format.{node};
-ghost use Rattle.light_sheet_demands.specs.Contracts.{Check, NodeRefusal, NodeCall, SetNode, FillSlopes, Pool, Read, ListBends, FillRun};
+ghost use Rattle.light_sheet_demands.specs.Contracts.{Check, NodeRefusal, NodeCall, SetNode, FillSlopes, Pool, Read, ListBends, FillRun, ZonedLevel, FillZonedRun};
 use surface_answers::Answer;
 use surface_bends::Listed;
+use surface_zones::Zoned;
 
 pub fn check(sheet: &[u8]) -> u32
     ensures { λ r. ⌜ Check (now (sheet .entry)) r (now (sheet .exit)) ⌝ }
@@ -63,4 +64,16 @@ pub fn fill_run(sheet: &[u8], x: u32, y: u32, levels: &mut [i32]) -> u32
     ensures { λ r. ⌜ FillRun (now (sheet .entry)) x y (now (levels .entry)) r (now (levels .exit)) (now (sheet .exit)) ⌝ }
 {
     light_sheet::fill_run(sheet, x, y, levels)
+}
+
+pub fn zoned_level(sheet: &[u8], zones: &[u8], x: u32, y: u32) -> Zoned
+    ensures { λ r. ⌜ ZonedLevel (now (sheet .entry)) (now (zones .entry)) x y r (now (sheet .exit)) (now (zones .exit)) ⌝ }
+{
+    light_sheet::zoned_level(sheet, zones, x, y)
+}
+
+pub fn fill_zoned_run(sheet: &[u8], zones: &[u8], x: u32, y: u32, levels: &mut [i32]) -> u32
+    ensures { λ r. ⌜ FillZonedRun (now (sheet .entry)) (now (zones .entry)) x y (now (levels .entry)) r (now (levels .exit)) (now (sheet .exit)) (now (zones .exit)) ⌝ }
+{
+    light_sheet::fill_zoned_run(sheet, zones, x, y, levels)
 }

@@ -1,6 +1,6 @@
 // The calls for C and Rust, each with its record for a contract.
 ghost use Rattle.sheet_layout.specs.Format.{node};
-ghost use Rattle.light_sheet_demands.specs.Contracts.{Check, NodeRefusal, NodeOffset, SetNode, FillSlopes, Pool, ReadInto, BendsInto, FillRun};
+ghost use Rattle.light_sheet_demands.specs.Contracts.{Check, NodeRefusal, NodeOffset, SetNode, FillSlopes, Pool, ReadInto, BendsInto, FillRun, FillZonedRun, ZonedLevelInto};
 
 pub fn check(sheet: &[u8]) -> u32
     ensures { λ r. ⌜ Check (now (sheet .entry)) r (now (sheet .exit)) ⌝ }
@@ -61,4 +61,16 @@ pub fn fill_run(sheet: &[u8], x: u32, y: u32, levels: &mut [i32]) -> u32
     ensures { λ r. ⌜ FillRun (now (sheet .entry)) x y (now (levels .entry)) r (now (levels .exit)) (now (sheet .exit)) ⌝ }
 {
     light_sheet_c::lvs_fill_run(sheet, x, y, levels)
+}
+
+pub fn zoned_level(sheet: &[u8], zones: &[u8], x: u32, y: u32, level: &mut i32) -> u32
+    ensures { λ r. ⌜ ZonedLevelInto (now (sheet .entry)) (now (zones .entry)) x y (now (level .entry)) r (now (level .exit)) (now (sheet .exit)) (now (zones .exit)) ⌝ }
+{
+    light_sheet_c::lvs_zoned_level(sheet, zones, x, y, level)
+}
+
+pub fn fill_zoned_run(sheet: &[u8], zones: &[u8], x: u32, y: u32, levels: &mut [i32]) -> u32
+    ensures { λ r. ⌜ FillZonedRun (now (sheet .entry)) (now (zones .entry)) x y (now (levels .entry)) r (now (levels .exit)) (now (sheet .exit)) (now (zones .exit)) ⌝ }
+{
+    light_sheet_c::lvs_fill_zoned_run(sheet, zones, x, y, levels)
 }

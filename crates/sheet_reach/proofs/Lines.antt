@@ -6,7 +6,6 @@ use mathlib.Core.List.{List}
 use Rattle.sheet_layout.specs.Format.{columns, rows, lineX, lineY}
 use Rattle.sheet_layout.specs.Neighbours.{previous}
 use Rattle.sheet_calls.specs.Refusals.{Accepted}
-use Rattle.sheet_calls.specs.WellFormed.{WellFormed}
 use Rattle.sheet_calls.proofs.WellFormed.{accepted-laws}
 use Rattle.sheet_reach.specs.Reach.{TouchesNode, outermost, WithinLines}
 use Rattle.sheet_reach.specs.ReachLaws.{Attained}

@@ -26,7 +26,7 @@ pub fn fill_run(sheet: &[u8], x: u32, y: u32, levels: &mut [i32]) -> u32
 }
 
 // The number that refuses a run of `count` pixels, or 0.
-fn run_refusal(sheet: &[u8], x: u32, y: u32, count: usize) -> u32
+pub fn run_refusal(sheet: &[u8], x: u32, y: u32, count: usize) -> u32
     ensures { λ r. ⌜ r ≡ runRefusal (now (sheet .entry)) x y count ⌝ }
 {
     let refusal = sheet_refusal(sheet);

@@ -38,6 +38,17 @@ pub fn read(sheet: &[u8], x: u32, y: u32, kind: u32) -> Answer
     reading(sheet, x, y, kind)
 }
 
+// The level at a pixel of the mesh, in whole grains.
+pub fn level(sheet: &[u8], x: u32, y: u32) -> i64
+    requires { ⌜ Accepted (now sheet) × Inside (now sheet) x y ⌝ }
+    ensures { λ r. ⌜ r ≡ level (now (sheet .entry)) x y ⌝ }
+{
+    let cubic = locate(sheet, x, y);
+    let k = cubic.coefficients;
+    let p = cubic.pixel;
+    element_evaluation::level_of(k, p)
+}
+
 // The level and the tilt along x and y at a pixel of the mesh, as whole numbers.
 pub fn level_and_tilt(sheet: &[u8], x: u32, y: u32) -> [i64; 3]
     requires { ⌜ Accepted (now sheet) × Inside (now sheet) x y ⌝ }

@@ -1,7 +1,7 @@
 //! The bench: lends a sheet, makes calls on it, and compares all that comes of them.
 
 use crate::bare::{self, Places};
-use crate::call::{Call, Outcome, Written};
+use crate::call::{Beside, Call, Outcome, Written, NOTHING_BESIDE};
 use crate::lent::{untouchable, Lent, Place};
 use crate::patterns;
 use crate::random::Random;
@@ -9,12 +9,15 @@ use crate::requests::digits;
 use crate::sheet::Sheet;
 use crate::tally::Tally;
 use crate::wrapped;
+use crate::zones;
 
 /// The longest sheet or target and the longest run that are lent memory one may touch.
 pub const LONGEST_SHEET: usize = 60_000;
 pub const LONGEST_RUN: usize = 70_000;
 /// The most places for bends that are lent memory of their own.
 pub const MOST_PLACES: usize = 40;
+/// The longest list of zones.
+pub const LONGEST_LIST: usize = 1_000;
 /// The longest run or target at all, always refused, and the most places: the count does not fit 32
 /// bits.
 pub const FAR: usize = (1 << 32) + 10_000;
@@ -28,12 +31,14 @@ pub struct Bench {
     sheet: Lent,
     decoded: Result<Sheet, u32>,
     second: Lent,
-    second_decoded: Result<Sheet, u32>,
+    zones: Lent,
+    beside: Beside,
     target: Lent,
     values: Lent,
     row: Lent,
     bends: Lent,
     pieces: Lent,
+    level: Lent,
     far: Lent,
     untouchable: *mut u8,
     turns: Random,
@@ -49,12 +54,14 @@ impl Bench {
             sheet: Lent::new(LONGEST_SHEET),
             decoded: Err(1),
             second: Lent::new(LONGEST_SHEET),
-            second_decoded: Err(1),
+            zones: Lent::new(LONGEST_LIST),
+            beside: NOTHING_BESIDE,
             target: Lent::new(LONGEST_SHEET),
             values: Lent::new(size_of::<[f64; 3]>()),
             row: Lent::new(size_of::<i32>() * LONGEST_RUN),
             bends: Lent::new(size_of::<i64>() * MOST_PLACES),
             pieces: Lent::new(size_of::<u32>()),
+            level: Lent::new(size_of::<i32>()),
             far,
             untouchable: untouchable(size_of::<i32>() * FAR),
             turns: Random::new(seed),
@@ -79,7 +86,14 @@ impl Bench {
     pub fn lay_second(&mut self, bytes: &[u8]) {
         self.second.lend_holding(bytes, 1, self.turns.next());
         self.second.allow_writing(false);
-        self.second_decoded = Sheet::decode(bytes);
+        self.beside.second = Sheet::decode(bytes);
+    }
+
+    /// Lends a list of zones, only to be read, to the zoned calls that follow.
+    pub fn lay_zones(&mut self, list: &[u8]) {
+        self.zones.lend_holding(list, 1, self.turns.next());
+        self.zones.allow_writing(false);
+        self.beside.zones = zones::decode(list);
     }
 
     /// The sheet that lies there, if it is accepted.
@@ -100,20 +114,23 @@ impl Bench {
 
     /// The same, bare or through the wrapper.
     pub fn compare_by(&mut self, call: Call, wrapped: bool) -> Outcome {
-        let outcome = call.outcome_beside(&self.decoded, &self.second_decoded);
+        let outcome = call.outcome_beside(&self.decoded, &self.beside);
         self.lend_places(&call);
         // A bare call that is to be refused may not even write a sheet and put it back.
         let writes = wrapped || !matches!(outcome.written, Written::Nothing);
         self.sheet.allow_writing(call.writes_sheet() && writes);
-        if let Call::Pool { .. } = call {
-            self.target.allow_writing(writes);
+        match call {
+            Call::Pool { .. } => self.target.allow_writing(writes),
+            Call::ZonedLevel { .. } => self.level.allow_writing(writes),
+            Call::FillZonedRun { .. } => self.row.allow_writing(writes),
+            _ => {}
         }
         let returned = self.make(&call, wrapped);
         self.expect(&call, &outcome);
         match call {
             Call::Read { .. } if !wrapped => self.tally.count_kept(self.values.expected()),
             Call::Pool { .. } if self.decoded.is_ok() => {
-                self.tally.count_second(&self.second_decoded);
+                self.tally.count_second(&self.beside.second);
             }
             _ => {}
         }
@@ -144,7 +161,10 @@ impl Bench {
                 let turn = self.turns.next();
                 self.pieces.lend(size_of::<u32>(), Place::in_turn(turn, 4), turn);
             }
-            Call::FillRun { count, .. } if !is_far(call) => {
+            Call::ZonedLevel { .. } => {
+                self.level.lend(size_of::<i32>(), Place::in_turn(turn, 4), turn);
+            }
+            Call::FillRun { count, .. } | Call::FillZonedRun { count, .. } if !is_far(call) => {
                 self.row.lend(size_of::<i32>() * count, Place::in_turn(turn, 4), turn);
             }
             _ => {}
@@ -171,6 +191,7 @@ impl Bench {
                 let bytes: Vec<u8> = levels.iter().flat_map(|level| level.to_le_bytes()).collect();
                 self.row.expect(0, &bytes);
             }
+            Written::Level(level) => self.level.expect(0, &level.to_le_bytes()),
         }
     }
 
@@ -187,9 +208,14 @@ impl Bench {
                 lent.push(("bends", if is_far(call) { &self.far } else { &self.bends }));
                 lent.push(("count of pieces", &self.pieces));
             }
-            Call::FillRun { .. } if is_far(call) => lent.push(("far row", &self.far)),
-            Call::FillRun { .. } => lent.push(("row", &self.row)),
+            Call::ZonedLevel { .. } => lent.push(("level", &self.level)),
+            Call::FillRun { .. } | Call::FillZonedRun { .. } => {
+                lent.push(if is_far(call) { ("far row", &self.far) } else { ("row", &self.row) });
+            }
             _ => {}
+        }
+        if call.is_zoned() {
+            lent.push(("list of zones", &self.zones));
         }
         lent
     }
@@ -206,8 +232,8 @@ impl Bench {
             let account = self.account(call, outcome, returned);
             println!("difference {number}: {call:?} ({face})\n{account}");
         }
-        let Bench { target, values, row, bends, pieces, far, .. } = self;
-        for lent in [target, values, row, bends, pieces, far] {
+        let Bench { target, values, row, bends, pieces, level, far, .. } = self;
+        for lent in [target, values, row, bends, pieces, level, far] {
             lent.restore();
         }
         if !self.sheet.is_as_expected() {
@@ -247,6 +273,9 @@ impl Bench {
             row: row.cast(),
             bends: bends.cast(),
             pieces: self.pieces.pointer().cast(),
+            zones: self.zones.pointer(),
+            zones_len: self.zones.len(),
+            level: self.level.pointer().cast(),
         };
         // SAFETY: all is lent in the lengths that are passed, though far memory may not be touched.
         // The sheet may be written by a call that is there to write it.
@@ -259,7 +288,7 @@ impl Bench {
         }
     }
 
-    /// What the values, the bends, a short row or a short target hold after the call.
+    /// What the values, the bends, a level, a short row or a short target hold after the call.
     fn held_text(&self, call: &Call) -> String {
         match call {
             Call::Read { .. } => {
@@ -277,7 +306,11 @@ impl Bench {
             Call::Pool { target } if *target <= SHORT => {
                 format!(", target holds {}", digits(self.target.bytes()))
             }
-            Call::FillRun { count, .. } if *count <= SHORT => {
+            Call::ZonedLevel { .. } => {
+                let level = i32::from_le_bytes(self.level.bytes().try_into().unwrap());
+                format!(", level holds {level}")
+            }
+            Call::FillRun { count, .. } | Call::FillZonedRun { count, .. } if *count <= SHORT => {
                 let places = self.row.bytes().chunks_exact(4);
                 let levels = places.map(|place| i32::from_le_bytes(place.try_into().unwrap()));
                 format!(", row holds {:?}", levels.collect::<Vec<i32>>())
@@ -286,12 +319,15 @@ impl Bench {
         }
     }
 
-    /// The sheet, and of a pool the second one.
+    /// The sheet, of a pool the second one, and zones.
     fn sheets_text(&self, call: &Call) -> String {
         let sheet = format!("{} {}", self.name, bytes_text(self.sheet.expected()));
         match call {
             Call::Pool { .. } => {
                 format!("{sheet}\n  second: {}", bytes_text(self.second.expected()))
+            }
+            _ if call.is_zoned() => {
+                format!("{sheet}\n  zones: {}", bytes_text(self.zones.expected()))
             }
             _ => sheet,
         }
@@ -312,7 +348,7 @@ fn is_far(call: &Call) -> bool {
     match *call {
         Call::Pool { target } => target > LONGEST_SHEET,
         Call::Bends { places, .. } => places > MOST_PLACES,
-        Call::FillRun { count, .. } => count > LONGEST_RUN,
+        Call::FillRun { count, .. } | Call::FillZonedRun { count, .. } => count > LONGEST_RUN,
         _ => false,
     }
 }

@@ -1,12 +1,16 @@
-//! The nine calls, and what each must give and write by the independent implementation.
+//! The eleven calls, and what each must give and write by the independent implementation.
+
+use std::cmp::Ordering;
 
 use crate::bends::{self, LEAST_PLACES};
 use crate::fraction::Fraction;
 use crate::pool;
 use crate::sheet::{in_bounds, Sheet, NODE_BYTES};
 use crate::slopes::{self, MOST_STIFFNESS};
+use crate::zones::{self, Zone};
 
-/// A call on a sheet; a pool is with the second sheet that lies beside it, into a target so long.
+/// A call on a sheet; a pool is with the second sheet that lies beside it, into a target so long, and
+/// zoned ones are with the zones there.
 #[derive(Clone, Copy, Debug)]
 pub enum Call {
     Check,
@@ -18,10 +22,12 @@ pub enum Call {
     Read { x: u32, y: u32, kind: u32 },
     Bends { x: u32, y: u32, places: usize },
     FillRun { x: u32, y: u32, count: usize },
+    ZonedLevel { x: u32, y: u32 },
+    FillZonedRun { x: u32, y: u32, count: usize },
 }
 
 /// The names of the calls, in the order of [`Call::index`].
-pub const NAMES: [&str; 9] = [
+pub const NAMES: [&str; 11] = [
     "check",
     "node_refusal",
     "node_offset",
@@ -31,7 +37,21 @@ pub const NAMES: [&str; 9] = [
     "read",
     "bends",
     "fill_run",
+    "zoned_level",
+    "fill_zoned_run",
 ];
+
+/// What lies beside the sheet of a call.
+#[derive(Clone)]
+pub struct Beside {
+    /// The second sheet of a pool, or its refusal.
+    pub second: Result<Sheet, u32>,
+    /// The zones of a list, or its refusal.
+    pub zones: Result<Vec<Zone>, u32>,
+}
+
+/// No second sheet and no zones.
+pub const NOTHING_BESIDE: Beside = Beside { second: Err(1), zones: Ok(Vec::new()) };
 
 /// What a call writes into lent memory.
 #[derive(Clone, Debug, PartialEq)]
@@ -48,6 +68,8 @@ pub enum Written {
     /// Three numbers for each piece; their count is written besides.
     Bends(Vec<i64>),
     Levels(Vec<i32>),
+    /// One zoned level.
+    Level(i32),
 }
 
 /// What a call must come to.
@@ -60,6 +82,8 @@ pub struct Outcome {
     pub written: Written,
     /// Values rounded that were negative ties and positive ones.
     pub ties: [u64; 2],
+    /// Zoned levels below the level and above it.
+    pub limited: [u64; 2],
 }
 
 impl Call {
@@ -74,7 +98,14 @@ impl Call {
             Call::Read { .. } => 6,
             Call::Bends { .. } => 7,
             Call::FillRun { .. } => 8,
+            Call::ZonedLevel { .. } => 9,
+            Call::FillZonedRun { .. } => 10,
         }
+    }
+
+    /// Whether the call looks at zones.
+    pub fn is_zoned(&self) -> bool {
+        matches!(self, Call::ZonedLevel { .. } | Call::FillZonedRun { .. })
     }
 
     /// Whether the call is there to write the sheet.
@@ -84,17 +115,13 @@ impl Call {
 
     /// What the call must come to on a sheet, or on bytes that are refused.
     pub fn outcome(&self, sheet: &Result<Sheet, u32>) -> Outcome {
-        self.outcome_beside(sheet, &Err(1))
+        self.outcome_beside(sheet, &NOTHING_BESIDE)
     }
 
-    /// The same where a second sheet lies beside it, for a pool.
-    pub fn outcome_beside(
-        &self,
-        sheet: &Result<Sheet, u32>,
-        second: &Result<Sheet, u32>,
-    ) -> Outcome {
+    /// The same where a second sheet or zones lie beside it.
+    pub fn outcome_beside(&self, sheet: &Result<Sheet, u32>, beside: &Beside) -> Outcome {
         let sheet = sheet.as_ref().map_err(|&refusal| refusal);
-        match sheet.and_then(|sheet| self.accepted(sheet, second)) {
+        match sheet.and_then(|sheet| self.accepted(sheet, beside)) {
             Ok(outcome) => outcome,
             // Only the offset keeps its refusal to itself.
             Err(refusal) => Outcome {
@@ -104,14 +131,13 @@ impl Call {
                 } else {
                     refusal as usize
                 },
-                written: Written::Nothing,
-                ties: [0, 0],
+                ..Outcome::writes(Written::Nothing)
             },
         }
     }
 
     /// What the call comes to if none of its own conditions refuses it.
-    fn accepted(&self, sheet: &Sheet, second: &Result<Sheet, u32>) -> Result<Outcome, u32> {
+    fn accepted(&self, sheet: &Sheet, beside: &Beside) -> Result<Outcome, u32> {
         match *self {
             Call::Check => Ok(Outcome::writes(Written::Nothing)),
             Call::NodeRefusal { column, row } => {
@@ -125,19 +151,21 @@ impl Call {
             Call::SetNode { column, row, numbers } => set_node(sheet, column, row, numbers),
             Call::FillSlopes { stiffness } => fill_slopes(sheet, stiffness),
             Call::Pool { target } => {
-                let pooled = pool::pooled(sheet, second, target)?;
+                let pooled = pool::pooled(sheet, &beside.second, target)?;
                 Ok(Outcome::writes(Written::Target(pooled)))
             }
             Call::Read { x, y, kind } => read(sheet, x, y, kind),
             Call::Bends { x, y, places } => give_bends(sheet, x, y, places),
             Call::FillRun { x, y, count } => fill_run(sheet, x, y, count),
+            Call::ZonedLevel { x, y } => zoned_level(sheet, &beside.zones, x, y),
+            Call::FillZonedRun { x, y, count } => fill_zoned_run(sheet, &beside.zones, x, y, count),
         }
     }
 }
 
 impl Outcome {
     fn writes(written: Written) -> Outcome {
-        Outcome { refusal: 0, returned: 0, written, ties: [0, 0] }
+        Outcome { refusal: 0, returned: 0, written, ties: [0, 0], limited: [0, 0] }
     }
 
     /// Rounds exact values and counts the ties among them.
@@ -215,7 +243,8 @@ fn give_bends(sheet: &Sheet, x: u32, y: u32, places: usize) -> Result<Outcome, u
     Ok(Outcome::rounds(bends::exact(sheet, x, y).as_flattened(), Written::Bends))
 }
 
-fn fill_run(sheet: &Sheet, x: u32, y: u32, count: usize) -> Result<Outcome, u32> {
+/// 7 when the first or the last pixel is outside the mesh, then 8 when there is none.
+fn may_run(sheet: &Sheet, x: u32, y: u32, count: usize) -> Result<(), u32> {
     if !sheet.holds(x, y) {
         return Err(7);
     }
@@ -226,10 +255,67 @@ fn fill_run(sheet: &Sheet, x: u32, y: u32, count: usize) -> Result<Outcome, u32>
     if count == 0 {
         return Err(8);
     }
-    let exact: Vec<Fraction> = (x..).take(count).map(|x| sheet.exact(x, y).level).collect();
-    let level = |number: i64| {
-        assert!(number.abs() < 1 << 20, "a level lies strictly within 2^20");
-        number as i32
-    };
-    Ok(Outcome::rounds(&exact, |rounded| Written::Levels(rounded.into_iter().map(level).collect())))
+    Ok(())
+}
+
+fn exact_levels(sheet: &Sheet, x: u32, y: u32, count: usize) -> Vec<Fraction> {
+    (x..).take(count).map(|x| sheet.exact(x, y).level).collect()
+}
+
+fn level(number: i64) -> i32 {
+    assert!(number.abs() < 1 << 20, "a level lies strictly within 2^20");
+    number as i32
+}
+
+fn fill_run(sheet: &Sheet, x: u32, y: u32, count: usize) -> Result<Outcome, u32> {
+    may_run(sheet, x, y, count)?;
+    Ok(Outcome::rounds(&exact_levels(sheet, x, y, count), |rounded| {
+        Written::Levels(rounded.into_iter().map(level).collect())
+    }))
+}
+
+/// 18 and 19 after 7.
+fn zoned_level(
+    sheet: &Sheet,
+    zones: &Result<Vec<Zone>, u32>,
+    x: u32,
+    y: u32,
+) -> Result<Outcome, u32> {
+    if !sheet.holds(x, y) {
+        return Err(7);
+    }
+    let zones = zones.as_ref().map_err(|&refusal| refusal)?;
+    Ok(zoned_row(sheet, zones, (x, y), 1, |levels| Written::Level(levels[0])))
+}
+
+/// 18 and 19 after 7 and 8.
+fn fill_zoned_run(
+    sheet: &Sheet,
+    zones: &Result<Vec<Zone>, u32>,
+    x: u32,
+    y: u32,
+    count: usize,
+) -> Result<Outcome, u32> {
+    may_run(sheet, x, y, count)?;
+    let zones = zones.as_ref().map_err(|&refusal| refusal)?;
+    Ok(zoned_row(sheet, zones, (x, y), count, Written::Levels))
+}
+
+/// The zoned levels of a row, and how many are below the level and above it.
+fn zoned_row(
+    sheet: &Sheet,
+    zones: &[Zone],
+    (x, y): (u32, u32),
+    count: usize,
+    write: impl Fn(Vec<i32>) -> Written,
+) -> Outcome {
+    let exact = exact_levels(sheet, x, y, count);
+    let levels: Vec<i64> = exact.iter().map(|level| level.rounded()).collect();
+    let zoned: Vec<i64> =
+        (x..).zip(&levels).map(|(x, &level)| zones::zoned(zones, x, y, level)).collect();
+    let limited = [Ordering::Less, Ordering::Greater].map(|side| {
+        zoned.iter().zip(&levels).filter(|(zoned, level)| zoned.cmp(level) == side).count() as u64
+    });
+    let write = |_| write(zoned.iter().copied().map(level).collect());
+    Outcome { limited, ..Outcome::rounds(&exact, write) }
 }

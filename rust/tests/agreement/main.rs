@@ -42,6 +42,8 @@ mod vectors;
 mod watch;
 mod worst;
 mod wrapped;
+mod zones;
+mod zoning;
 
 use std::process::ExitCode;
 use std::time::Instant;

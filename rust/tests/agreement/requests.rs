@@ -6,14 +6,15 @@ use std::path::PathBuf;
 use crate::call::{Call, Outcome, Written};
 
 /// The files, and how many cases each has.
-const FILES: [(&str, usize); 4] = [
+const FILES: [(&str, usize); 5] = [
     ("101-slopes.txt", 140),
     ("102-bends.txt", 140),
     ("104-pool.txt", 140),
     ("105-reach.txt", 140),
+    ("106-zones.txt", 140),
 ];
 /// The last request that has landed: cases that hold until it, or until an earlier one, do not.
-const LANDED: u32 = 105;
+const LANDED: u32 = 106;
 
 /// What is asked of calls, and of the program `reach`.
 #[derive(Default)]
@@ -28,6 +29,8 @@ pub struct Case {
     pub sheet: Vec<u8>,
     /// The second sheet of a pool; else no bytes.
     pub second: Vec<u8>,
+    /// The zones of a zoned call; else no bytes.
+    pub zones: Vec<u8>,
     pub call: Call,
     /// The number that it returns and what it has written, as they stand in the line.
     pub answer: String,
@@ -78,21 +81,31 @@ impl Requests {
 
 fn case(name: String, called: &str, answer: String) -> Case {
     let words: Vec<&str> = called.split(' ').collect();
-    let (sheet, second, call) = match words[..] {
+    let pixel = |words: [&str; 2]| words.map(|word| word.parse().expect("a pixel"));
+    let (sheet, second, zones, call) = match words[..] {
         ["fill_slopes", sheet, stiffness] => {
-            (sheet, "-", Call::FillSlopes { stiffness: stiffness.parse().expect("a stiffness") })
+            let stiffness = stiffness.parse().expect("a stiffness");
+            (sheet, "-", "-", Call::FillSlopes { stiffness })
         }
         ["bends", sheet, x, y, places] => {
-            let [x, y] = [x, y].map(|word| word.parse().expect("a pixel"));
-            (sheet, "-", Call::Bends { x, y, places: places.parse().expect("places") })
+            let [x, y] = pixel([x, y]);
+            (sheet, "-", "-", Call::Bends { x, y, places: places.parse().expect("places") })
         }
         ["pool", first, second, target] => {
-            (first, second, Call::Pool { target: target.parse().expect("a length") })
+            (first, second, "-", Call::Pool { target: target.parse().expect("a length") })
+        }
+        ["zoned_level", sheet, zones, x, y] => {
+            let [x, y] = pixel([x, y]);
+            (sheet, "-", zones, Call::ZonedLevel { x, y })
+        }
+        ["fill_zoned_run", sheet, zones, x, y, count] => {
+            let [x, y] = pixel([x, y]);
+            (sheet, "-", zones, Call::FillZonedRun { x, y, count: count.parse().expect("places") })
         }
         _ => panic!("{name}: not a call"),
     };
-    let [sheet, second] = [sheet, second].map(bytes);
-    Case { name, sheet, second, call, answer }
+    let [sheet, second, zones] = [sheet, second, zones].map(bytes);
+    Case { name, sheet, second, zones, call, answer }
 }
 
 /// What a call comes to on this sheet, as a line has it behind the arrow.
@@ -109,6 +122,11 @@ pub fn answer(sheet: &[u8], outcome: &Outcome) -> String {
         Written::Bends(bends) => {
             let numbers: String = bends.iter().map(|bend| format!(" {bend}")).collect();
             format!("{number} {}{numbers}", bends.len() / 3)
+        }
+        Written::Level(level) => format!("{number} {level}"),
+        Written::Levels(levels) => {
+            let levels: String = levels.iter().map(|level| format!(" {level}")).collect();
+            format!("{number}{levels}")
         }
         written => panic!("no case writes {written:?}"),
     }

@@ -19,6 +19,7 @@ use crate::sums;
 use crate::three;
 use crate::vectors::Vector;
 use crate::worst;
+use crate::zoning;
 
 const SMALL_SHEETS: usize = 2_500;
 const LARGE_SHEETS: usize = 200;
@@ -51,6 +52,7 @@ pub fn requests(bench: &mut Bench, cases: &[Case]) {
     for (case, wrapped) in cases.iter().flat_map(|case| [(case, false), (case, true)]) {
         bench.lay(&case.name, &case.sheet);
         bench.lay_second(&case.second);
+        bench.lay_zones(&case.zones);
         bench.compare_by(case.call, wrapped);
     }
 }
@@ -119,6 +121,7 @@ fn everything(bench: &mut Bench, random: &mut Random, mesh: &Sheet, depth: Depth
     battery::run(bench, mesh);
     creases::run(bench, random, mesh);
     pooling::run(bench, random, mesh);
+    zoning::run(bench, random, mesh);
     // Last, because it leaves flat slopes.
     filling::run(bench, random);
 }

@@ -12,7 +12,7 @@ const LEAST_CALLS: u64 = 5_000_000;
 /// Differences printed in full; more are only counted.
 const SHOWN: u64 = 5;
 /// Refusals are numbered from 1 to this.
-const REFUSALS: usize = 17;
+const REFUSALS: usize = 19;
 /// Those of a sheet are numbered from 1 to this.
 const SHEET_REFUSALS: usize = 6;
 /// What is rounded, apart: readings and runs, filled slopes, bends from each piece.
@@ -41,6 +41,9 @@ pub struct Tally {
     levels: u64,
     slopes: u64,
     sums: u64,
+    /// Zoned levels, and those of them below the level and above it.
+    zoned: u64,
+    limited: [u64; 2],
     /// Sums at each end of the range.
     ends: [u64; 2],
     /// Lists of bends by how many pieces they have.
@@ -76,6 +79,8 @@ impl Tally {
         };
         match &outcome.written {
             Written::Values(values) => self.values += values.len() as u64,
+            Written::Level(_) => self.zoned += 1,
+            Written::Levels(levels) if call.is_zoned() => self.zoned += levels.len() as u64,
             Written::Levels(levels) => self.levels += levels.len() as u64,
             Written::Target(bytes) => self.count_sums(bytes),
             Written::Bends(bends) => {
@@ -87,7 +92,8 @@ impl Tally {
             }
             Written::Nothing | Written::Nodes { .. } => {}
         }
-        for (all, new) in self.ties[rounded].iter_mut().zip(outcome.ties) {
+        let ties = self.ties[rounded].iter_mut().zip(outcome.ties);
+        for (all, new) in ties.chain(self.limited.iter_mut().zip(outcome.limited)) {
             *all += new;
         }
     }
@@ -155,6 +161,9 @@ impl Tally {
         if self.wrapped == 0 || self.levels == 0 || self.slopes == 0 {
             complaints.push("wrapper, levels or filled slopes were never met".to_string());
         }
+        if self.limited.contains(&0) {
+            complaints.push("no level was ever raised, or none lowered, by zones".to_string());
+        }
         if self.lists.contains(&0) {
             complaints.push("no list of some count of pieces was ever met".to_string());
         }
@@ -185,9 +194,11 @@ impl Tally {
         let lists: u64 = self.lists.iter().sum();
         // A list has three numbers for each piece, and their count.
         let bends = 3 * pieces + lists;
-        let written = self.values + self.levels + self.slopes + self.sums + bends;
+        let written = self.values + self.levels + self.slopes + self.sums + self.zoned + bends;
         println!("single numbers compared: {}", calls + written);
         println!("  of them levels in runs: {}, slopes filled: {}", self.levels, self.slopes);
+        let [lowered, raised] = self.limited;
+        println!("  zoned levels: {}, of them lowered: {lowered}, raised: {raised}", self.zoned);
         let [lowest, highest] = self.ends;
         println!("  sums in pools: {}, of them -4095: {lowest}, 4095: {highest}", self.sums);
         let [one, two, four, eight] = self.lists;
@@ -210,7 +221,7 @@ impl Tally {
     /// call's own behind them.
     fn print_table(&self) {
         let numbers: String = (0..=SHEET_REFUSALS).map(|number| format!(" {number:>8}")).collect();
-        println!("{:<13}{:>9}{numbers}", "by refusal", "all");
+        println!("{:<14}{:>9}{numbers}", "by refusal", "all");
         println!("{}", row("sheets", &self.sheets));
         println!("{}", row("second sheets", &self.seconds));
         for (name, counts) in NAMES.iter().zip(&self.calls) {
@@ -231,7 +242,7 @@ fn row(name: &str, counts: &[u64]) -> String {
     let columns: String = columns.iter().map(|count| format!(" {count:>8}")).collect();
     let own = (SHEET_REFUSALS + 1..).zip(own).filter(|(_, &count)| count > 0);
     let own: String = own.map(|(refusal, count)| format!("   {refusal}: {count}")).collect();
-    format!("{name:<13}{all:>9}{columns}{own}")
+    format!("{name:<14}{all:>9}{columns}{own}")
 }
 
 /// The number of a sheet's refusal, 0 where it is accepted.

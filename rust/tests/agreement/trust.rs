@@ -5,7 +5,7 @@ use std::fmt::Write;
 
 use crate::bends;
 use crate::boundaries;
-use crate::call::{Call, Written};
+use crate::call::{Beside, Call, Written, NOTHING_BESIDE};
 use crate::draft::Draft;
 use crate::element::{Cell, Corner, Exact, Piece, Weights};
 use crate::fraction::Fraction;
@@ -17,6 +17,7 @@ use crate::reach;
 use crate::requests::{self, Requests};
 use crate::sheet::Sheet;
 use crate::vectors::Vector;
+use crate::zones::{self, Zone};
 
 /// Points looked at on a half diagonal and on an edge, the ends included.
 const POINTS: i128 = 12;
@@ -31,6 +32,7 @@ pub fn check(random: &mut Random, vectors: &[Vector], requests: &Requests) {
     filled_example();
     creased_examples();
     pooled_example();
+    zoned_example();
     for _ in 0..200 {
         let draft = meshes::any(random);
         reads_beside_creases(&draft.sheet());
@@ -46,7 +48,8 @@ pub fn check(random: &mut Random, vectors: &[Vector], requests: &Requests) {
     }
     for case in &requests.cases {
         let [sheet, second] = [&case.sheet, &case.second].map(|bytes| Sheet::decode(bytes));
-        let outcome = case.call.outcome_beside(&sheet, &second);
+        let beside = Beside { second, zones: zones::decode(&case.zones) };
+        let outcome = case.call.outcome_beside(&sheet, &beside);
         assert!(requests::answer(&case.sheet, &outcome) == case.answer, "{}", case.name);
     }
     for input in &requests.inputs {
@@ -177,10 +180,34 @@ fn pooled_example() {
     let mut lens = on_lines([[100, 1, -64], [50, -32, 128], [95, -12, -9], [0, -95, 250]]);
     let pool = on_lines([[300, 0, -64], [-250, 32, 0], [4095, 0, -16], [0, -4095, 255]]);
     let call = Call::Pool { target: 40 };
-    let outcome = call.outcome_beside(&Ok(screen.sheet()), &Ok(lens.sheet()));
-    assert_eq!(outcome.written, Written::Target(pool.bytes()));
+    let outcome = |lens: &Draft| {
+        let beside = Beside { second: Ok(lens.sheet()), ..NOTHING_BESIDE };
+        call.outcome_beside(&Ok(screen.sheet()), &beside)
+    };
+    assert_eq!(outcome(&lens).written, Written::Target(pool.bytes()));
     lens.nodes[2][0] = 96;
-    assert_eq!(call.outcome_beside(&Ok(screen.sheet()), &Ok(lens.sheet())).refusal, 11);
+    assert_eq!(outcome(&lens).refusal, 11);
+}
+
+/// An exit lamp and subtitles over sheet A, whose levels are 64 32 0, 32 16 0 and 0 0 0. Both hold
+/// its middle, where the later one has the last word.
+fn zoned_example() {
+    let flat = [0, 0, 0];
+    let a = Ok(square(2, [[1, 0, 0], flat, flat, flat]));
+    let lamp = Zone { left: 0, top: 0, right: 1, bottom: 1, floor: -4095, ceiling: 0 };
+    let subtitles = Zone { left: 1, top: 1, right: 9, bottom: 9, floor: 1, ceiling: 4095 };
+    for (zones, middle_row) in [
+        (vec![], [32, 16, 0]),
+        (vec![lamp], [0, 0, 0]),
+        (vec![subtitles], [32, 64, 64]),
+        (vec![lamp, subtitles], [0, 64, 64]),
+        (vec![subtitles, lamp], [0, 0, 64]),
+    ] {
+        let zones = zones::decode(&zones::encode(&zones));
+        let beside = Beside { zones, ..NOTHING_BESIDE };
+        let run = Call::FillZonedRun { x: 0, y: 1, count: 3 }.outcome_beside(&a, &beside);
+        assert_eq!(run.written, Written::Levels(middle_row.to_vec()));
+    }
 }
 
 /// At pixels of every sort the exact surface of a pool is the sum of the two, in all its readings.

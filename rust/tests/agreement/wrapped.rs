@@ -2,11 +2,12 @@
 
 use std::slice;
 
-use light_sheet::{Node, Reading, Refusal};
+use light_sheet::{Node, Reading, Refusal, Zone};
 
 use crate::bare::Places;
 use crate::call::Call;
 use crate::sheet::Sheet;
+use crate::zones;
 
 /// Given for a node whose numbers are not those that the sheet holds; no call returns it.
 const OTHER_NUMBERS: usize = usize::MAX;
@@ -54,7 +55,43 @@ pub unsafe fn make(call: &Call, places: &Places, by_name: bool) -> usize {
             let levels = unsafe { slice::from_raw_parts_mut(levels, count) };
             number(light_sheet::fill_run(sheet, x, y, levels))
         }
+        // SAFETY: the zones are lent; there is a place for the level, and as many for a row.
+        Call::ZonedLevel { .. } | Call::FillZonedRun { .. } => unsafe {
+            zoned(call, sheet, places, by_name)
+        },
     }
+}
+
+/// A zoned call; the zones as they lie there, or each written anew from its numbers.
+///
+/// # Safety
+///
+/// As for [`make`].
+unsafe fn zoned(call: &Call, sheet: &[u8], places: &Places, by_name: bool) -> usize {
+    // SAFETY: the caller vouches for what is lent, here and below.
+    let lent = unsafe { slice::from_raw_parts(places.zones, places.zones_len) };
+    let written = if by_name { written_anew(lent) } else { None };
+    let zones = written.as_deref().unwrap_or(lent);
+    match *call {
+        Call::ZonedLevel { x, y } => {
+            let place = unsafe { &mut *places.level };
+            number(light_sheet::zoned_level(sheet, zones, x, y).map(|level| *place = level))
+        }
+        Call::FillZonedRun { x, y, count } => {
+            let levels = unsafe { slice::from_raw_parts_mut(places.row, count) };
+            number(light_sheet::fill_zoned_run(sheet, zones, x, y, levels))
+        }
+        _ => unreachable!("{call:?} looks at no zones"),
+    }
+}
+
+/// The bytes of zones, if they are not refused, as the wrapper writes them.
+fn written_anew(list: &[u8]) -> Option<Vec<u8>> {
+    let bytes = |zone: &zones::Zone| {
+        let zones::Zone { left, top, right, bottom, floor, ceiling } = *zone;
+        Zone { left, top, right, bottom, floor, ceiling }.to_bytes()
+    };
+    Some(zones::decode(list).ok()?.iter().flat_map(bytes).collect())
 }
 
 /// Pools the sheet with the second one, into a target of so many bytes.

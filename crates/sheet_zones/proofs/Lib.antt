@@ -1,0 +1,9 @@
+pub mod Examples
+pub mod Limits
+pub mod Between
+pub mod Clamps
+pub mod Lists
+pub mod Holding
+pub mod Conditions
+pub mod Last
+pub mod Laws

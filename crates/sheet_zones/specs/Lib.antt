@@ -1,0 +1,3 @@
+pub mod Zones
+pub mod ZoneLaws
+pub mod Examples

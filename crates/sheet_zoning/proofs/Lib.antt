@@ -1,0 +1,5 @@
+mod Turns
+mod Pixels
+mod Mapped
+mod Refusal
+pub mod Clamped

@@ -1,0 +1,3 @@
+pub mod Zoned
+pub mod ZonedLaws
+pub mod Examples
