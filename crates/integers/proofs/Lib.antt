@@ -15,3 +15,4 @@ mod Rest
 mod Constants
 pub mod Parameters
 pub mod Stepwise
+pub mod InOrder

@@ -10,7 +10,7 @@ use Rattle.integers.specs.Within.{_within_}
 use Rattle.sheet_layout.specs.Format.{Node, highest, steepest, heightIn, slopeIn, nodeIn}
 use Rattle.sheet_layout.proofs.Meaning.{leb-holds, and-holds}
 
-within-holds : (z : ℤ) (N : ℕ) → (leb (natAbs z) N ≡ true) ↔ (z within N)
+pub within-holds : (z : ℤ) (N : ℕ) → (leb (natAbs z) N ≡ true) ↔ (z within N)
 within-holds z N = let h = leb-holds (natAbs z) N in (λ e. record { bound = h .0 e }, λ w. h .1 (w .bound))
 
 pub slope-in : (z : ℤ) → (slopeIn z ≡ true) ↔ (z within steepest)

@@ -3,15 +3,15 @@ use Prim.Native.Nat.{ℕ, suc, _+_, _*_, _/_, _%_, _≤_, _<_}
 use mathlib.Core.Path.{_≡_, refl}
 use mathlib.Core.Logic.{_↔_, Iff·trans}
 use mathlib.Core.List.{List, [], _∷_, map}
-use mathlib.Core.Bool.{Bool, true, false}
+use mathlib.Core.Bool.{true, false}
 use native.Mathlib.Nat.{div-add-mod, mul-mod-right, le-div-iff-mul-le}
 use native.Mathlib.Omega.{arith}
 use lib.Dec.{lit<}
-use lib.IntN.{ℤ, natAbs}
+use lib.IntN.{ℤ}
 use lib.ListN.{length}
-use lib.Signed.{_≤ℤ_, ltZ, ltZ-yes, ltZ-no, clashℤ}
 use Rattle.integers.specs.Within.{_within_}
-use Rattle.sheet_layout.proofs.Meaning.{ltb-fails, not-fails, or-fails, leb-holds, eqb-holds}
+use Rattle.sheet_layout.proofs.Meaning.{ltb-fails, ltZ-fails, not-fails, or-fails, eqb-holds}
+use Rattle.sheet_layout.proofs.NodeRange.{within-holds}
 use Rattle.sheet_layout.proofs.Some.{some-fails}
 use Rattle.sheet_calls.specs.Rules.{Each}
 use Rattle.sheet_calls.proofs.Rules.{rule-laws, nonzero, numbered}
@@ -34,16 +34,9 @@ eighteen b = Iff·trans (or-fails (not-fails (eqb-holds (length b % 12) 0)) (ltb
 
 -- ---- 19
 
-ltZ-fails : (a b : ℤ) → (ltZ a b ≡ false) ↔ (b ≤ℤ a)
-ltZ-fails a b = (λ e. ltZ-no (rw e tt), λ h. by h (ltZ a b) refl)
-  where
-    by : b ≤ℤ a → (t : Bool) → ltZ a b ≡ t → t ≡ false
-    by h true e = clashℤ (ltZ-yes (rw e tt)) h
-    by h false e = refl
-
 limit-in : (z : ℤ) → (limitIn z ≡ true) ↔ (z within 4095)
 unfolding limitIn
-limit-in z = let h = leb-holds (natAbs z) 4095 in (λ e. record { bound = h .0 e }, λ w. h .1 (w .bound))
+limit-in z = within-holds z 4095
 
 valid-zone : (z : Zone) → (wrongZone z ≡ false) ↔ ValidZone z
 unfolding wrongZone

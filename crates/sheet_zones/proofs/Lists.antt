@@ -6,29 +6,27 @@ use native.Mathlib.Nat.{add-assoc, div-eq-of-eq-mul-right}
 use native.Mathlib.Omega.{arith}
 use lib.Dec.{lit<}
 use lib.ListN.{length, getD}
+use Rattle.integers.proofs.InOrder.{size-of, place-of}
 use Rattle.sheet_words.specs.Word.{byteAt, signed}
 use Rattle.sheet_calls.specs.Rules.{Each}
 use Rattle.sheet_zones.specs.Zones.{Zone, zoneIn, zoneAt, zoneCount, zonesFrom, zonesOf}
 
-pub numbers : (b : List ℕ) (i k : ℕ) → k ≡ 12 * i → let z = zoneAt b i in
-    (z .left ≡ byteAt b k + byteAt b (k + 1) * 256) × (z .top ≡ byteAt b (k + 2) + byteAt b (k + 3) * 256)
-    × (z .right ≡ byteAt b (k + 4) + byteAt b (k + 5) * 256) × (z .bottom ≡ byteAt b (k + 6) + byteAt b (k + 7) * 256)
-    × (z .floor ≡ signed (byteAt b (k + 8) + byteAt b (k + 9) * 256)) × (z .ceiling ≡ signed (byteAt b (k + 10) + byteAt b (k + 11) * 256))
+pub numbers : (b : List ℕ) (k at : ℕ) → at ≡ 12 * k → let z = zoneAt b k in
+    (z .left ≡ byteAt b at + byteAt b (at + 1) * 256) × (z .top ≡ byteAt b (at + 2) + byteAt b (at + 3) * 256)
+    × (z .right ≡ byteAt b (at + 4) + byteAt b (at + 5) * 256) × (z .bottom ≡ byteAt b (at + 6) + byteAt b (at + 7) * 256)
+    × (z .floor ≡ signed (byteAt b (at + 8) + byteAt b (at + 9) * 256)) × (z .ceiling ≡ signed (byteAt b (at + 10) + byteAt b (at + 11) * 256))
 unfolding zoneIn
-numbers b i k e = rw e (simp add-assoc (refl, refl, refl, refl, refl, refl))
+numbers b k at e = rw e (simp add-assoc (refl, refl, refl, refl, refl, refl))
 
 -- ---- n zones from zone k on
 
 size-from : (b : List ℕ) (k n : ℕ) → length (zonesFrom b k n) ≡ n
 unfolding zonesFrom
-size-from b k zero = refl
-size-from b k (suc n) = ap suc (size-from b (suc k) n)
+size-from b = size-of (zoneAt b) (zonesFrom b) (λ k. refl) (λ k n. refl)
 
-at-from : (b : List ℕ) (k n i : ℕ) (z : Zone) → i < n → getD (zonesFrom b k n) i z ≡ zoneAt b (k + i)
+at-from : (b : List ℕ) (k n i : ℕ) → i < n → (z : Zone) → getD (zonesFrom b k n) i z ≡ zoneAt b (k + i)
 unfolding zonesFrom
-at-from b k zero i z h = absurd (omega arith)
-at-from b k (suc n) zero z h = let place : k ≡ k + 0 = omega arith in ap (zoneAt b) place
-at-from b k (suc n) (suc i) z h = let place : suc k + i ≡ k + suc i = omega arith in at-from b (suc k) n i z (omega arith) ∙ ap (zoneAt b) place
+at-from b = place-of (zoneAt b) (zonesFrom b) (λ k. refl) (λ k n. refl)
 
 pub each-from : (P : Zone → Type 0) (b : List ℕ) (k n : ℕ) → ((i : ℕ) → i < k + n → P (zoneAt b i)) → Each P (zonesFrom b k n)
 unfolding zonesFrom
@@ -46,4 +44,4 @@ many b n e = size-from b 0 (zoneCount b) ∙ counted b n e
 
 pub each : (b : List ℕ) (n k : ℕ) → length b ≡ 12 * n → k < n → (z : Zone) → getD (zonesOf b) k z ≡ zoneAt b k
 unfolding zonesOf
-each b n k e h z = let start : 0 + k ≡ k = omega arith in rw (counted b n e) (at-from b 0 n k z h ∙ ap (zoneAt b) start)
+each b n k e h z = let start : 0 + k ≡ k = omega arith in rw (counted b n e) (at-from b 0 n k h z ∙ ap (zoneAt b) start)

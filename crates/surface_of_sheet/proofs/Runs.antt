@@ -10,6 +10,7 @@ use lib.ListN.{length, getD, set}
 use lib.Seq.{drop-length}
 use borrow.Author.Tests.{eq-eqb, ne-eqb}
 use Rattle.integers.specs.Stepwise.{step, steps}
+use Rattle.integers.proofs.InOrder.{size-of, place-of}
 use Rattle.sheet_calls.specs.Refusals.{runRefusal}
 use Rattle.sheet_calls.proofs.Chains.{run-held, run-taken}
 use Rattle.surface_of_sheet.specs.Surface.{level}
@@ -24,14 +25,11 @@ next s x y k = ap (λ n. level s n y) (suc-add x k ∙ sym (add-suc x k))
 
 levels-length : (s : List ℕ) (x y count : ℕ) → length (levelsAlong s x y count) ≡ count
 unfolding levelsAlong
-levels-length s x y zero = refl
-levels-length s x y (suc count) = ap suc (levels-length s (suc x) y count)
+levels-length s x y = size-of (λ i. level s i y) (λ i n. levelsAlong s i y n) (λ i. refl) (λ i n. refl) x
 
 pub levels-at : (s : List ℕ) (x y count k : ℕ) → k < count → getD (levelsAlong s x y count) k (pos 0) ≡ level s (x + k) y
 unfolding levelsAlong
-levels-at s x y zero k h = absurd (omega (arith, h))
-levels-at s x y (suc count) zero h = rw (add-zero x) refl
-levels-at s x y (suc count) (suc k) h = levels-at s (suc x) y count k (omega (arith, h)) ∙ next s x y k
+levels-at s x y count k h = place-of (λ i. level s i y) (λ i n. levelsAlong s i y n) (λ i. refl) (λ i n. refl) x count k h (pos 0)
 
 -- ---- a row of which some slots are done
 
