@@ -1,4 +1,6 @@
 // At a pixel of a cell, the bends from each piece that holds it: three numbers for a piece, in a lent list.
+#![tactic(auto)]
+
 ghost use Rattle.std.specs.Prelude.{◌≡◌, ◌+◌, ◌≤◌, length};
 ghost use Rattle.std.proofs.lemmas.List.Edits.{sets};
 ghost use Rattle.element_cell.specs.Cell.{PixelInCell};

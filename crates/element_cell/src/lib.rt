@@ -1,4 +1,6 @@
 // The words of a cell: its pixels and four pieces, those that hold a pixel, the one that it is read from; in `specs` its sides, corner numbers, coefficients.
+#![tactic(auto)]
+
 pub mod lengths;
 
 ghost use Rattle.std.specs.Prelude.{◌≡◌};
@@ -7,7 +9,7 @@ ghost use Rattle.element_cell.specs.Cell.{pixel_point, PixelInCell};
 ghost use Rattle.element_cell.specs.Pieces.{piece_of, named};
 
 // The pixel a and b pixels from the left and the top edge of a cell.
-#[derive(Drop)]
+#[derive(Clone, Copy)]
 pub struct Pixel {
     pub a: usize,
     pub b: usize,
@@ -15,7 +17,7 @@ pub struct Pixel {
     pub height: usize,
 }
 
-#[derive(Drop)]
+#[derive(Clone, Copy)]
 pub enum Piece {
     Top,
     Right,

@@ -1,4 +1,6 @@
 // A cell's twelve corner numbers: corners 00, 10, 01 and 11, of each the height and the slopes per cell width and per cell height.
+#![tactic(auto)]
+
 ghost use Rattle.std.specs.Prelude.{◌≡◌};
 ghost use Rattle.integers.specs.Within.{◌within◌};
 ghost use Rattle.element_sibson.specs.Element.{corner_numbers, swap, negate_x, negate_y, exchanged, top_down, left_right};

@@ -1,4 +1,6 @@
 // The differences of the cubic along a row of pixels: from them its values to the right follow by additions.
+#![tactic(auto)]
+
 pub mod theorems;
 
 ghost use Rattle.std.specs.Prelude.{◌≡◌, ◌^◌, ◌≤◌};

@@ -1,4 +1,6 @@
 // The six readings of a piece at a pixel, from its doubled coefficients: cells 1 to 64 pixels wide and high, corner numbers within 262,080.
+#![tactic(auto)]
+
 pub mod derivatives;
 
 ghost use Rattle.std.specs.Prelude.{◌≡◌, ◌*◌, ◌^◌, pos, nat_abs, ◌*ℤ◌};

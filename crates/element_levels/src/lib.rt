@@ -1,4 +1,6 @@
 // The levels of a cubic along a row of pixels, stored one by one: the only store of a run.
+#![tactic(auto)]
+
 ghost use Rattle.std.specs.Prelude.{◌≡◌, ◌+◌, ◌≤◌, nat_abs, length};
 ghost use Rattle.integers.specs.Round.{round};
 ghost use Rattle.integers.specs.Stepwise.{steps, starting_at};

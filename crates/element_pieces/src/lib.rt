@@ -1,4 +1,6 @@
 // The ten doubled coefficients of a piece in the cell's own r and s, in the order 1, r, s, r², rs, s², r³, r²s, rs², s³.
+#![tactic(auto)]
+
 ghost use Rattle.std.specs.Prelude.{◌≡◌, ◌<◌};
 ghost use Rattle.element_sibson.specs.Cubic.{Power};
 ghost use Rattle.element_sibson.specs.Element.{in_order, column, weights, weighed, on_top, on_left, sibson};

@@ -1,4 +1,6 @@
 // The level along a row of pixels: over 2 W³ H³ it is a cubic in the offset from the cell's left edge.
+#![tactic(auto)]
+
 pub mod theorems;
 
 ghost use Rattle.std.specs.Prelude.{◌≡◌, ◌*◌, ◌^◌, ◌≤◌, pos};

@@ -1,2 +1,4 @@
 // The Sibson element on one cell of any width and height.
+#![tactic(auto)]
+
 pub mod theorems;

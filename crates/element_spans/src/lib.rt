@@ -1,4 +1,6 @@
 // The levels along a row of pixels in one cell, by spans: one for each piece that the row crosses, at most three.
+#![tactic(auto)]
+
 pub mod theorems;
 
 ghost use Rattle.std.specs.Prelude.{◌≡◌, ◌+◌, ◌-◌, ◌/◌, ◌^◌, ◌≤◌, ◌<◌, min, length};
@@ -18,7 +20,7 @@ use integers::{Denominator, least};
 
 // Where a row of pixels leaves the left piece of a cell, and the one between left and right: the first offsets beyond them; and whether it lies in the upper
 // half, where that one is the top piece, not the bottom one.
-#[derive(Drop)]
+#[derive(Clone, Copy)]
 struct Ends {
     left: usize,
     middle: usize,

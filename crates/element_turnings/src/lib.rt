@@ -1,4 +1,6 @@
 // Turnings of a cubic: its doubled coefficients, in the order 1, r, s, r², rs, s², r³, r²s, rs², s³, in other coordinates of the cell.
+#![tactic(auto)]
+
 pub mod theorems;
 
 ghost use Rattle.std.specs.Prelude.{◌≡◌};

@@ -1,4 +1,6 @@
 // Division that rounds down, and the rounding rule, on 64-bit integers: numerators within 2⁶², denominators from 1 to 2³⁷; and the smaller of two numbers.
+#![tactic(auto)]
+
 pub mod theorems;
 
 ghost use Rattle.std.specs.Prelude.{◌≡◌, ◌^◌, min, pos, nat_abs, ◌+ℤ◌, ◌*ℤ◌, ◌≤ℤ◌, ◌<ℤ◌};
@@ -26,7 +28,7 @@ pub fn round(n: i64, d: i64) -> i64
 }
 
 // A denominator d with the constants for rounding many numerators over it: n / d is about n · scale · inverse / 2⁶⁴.
-#[derive(Drop)]
+#[derive(Clone, Copy)]
 pub struct Denominator {
     pub value: i64,
     pub scale: i64,

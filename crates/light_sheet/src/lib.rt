@@ -1,4 +1,6 @@
 // The calls of a light sheet, for every input: no call has a `requires`, and each outcome is an equation over what the call is given.
+#![tactic(auto)]
+
 ghost use Rattle.std.specs.Prelude.{◌≡◌, length};
 ghost use Rattle.sheet_layout.specs.Format.{node};
 ghost use Rattle.sheet_calls.specs.Refusals.{check_refusal, lookup_refusal, setting_refusal, run_refusal};

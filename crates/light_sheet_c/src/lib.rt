@@ -1,5 +1,7 @@
 // The calls of a light sheet for C and Rust, with the outcomes of those of `light_sheet`, and all but `lvs_node_offset` thin over them. No call has a
 // `requires`. A slice is a pointer and a length in C, an array a pointer; include/light_sheet.h declares the calls.
+#![tactic(auto)]
+
 mod slots;
 
 ghost use Rattle.std.specs.Prelude.{◌≡◌, length};

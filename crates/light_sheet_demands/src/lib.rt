@@ -1,5 +1,7 @@
 // The customer's three demands, and the requests of 02, each one theorem. A theorem is the contract of a function that returns 0, so that the gate asks for its
 // proof. `light_sheet_ties` shows that the calls meet the records which they speak of.
+#![tactic(auto)]
+
 ghost use Rattle.std.specs.Prelude.{◌≡◌};
 ghost use Rattle.light_sheet_demands.specs.Demands.{DemandOne, DemandTwo, DemandThree};
 ghost use Rattle.light_sheet_demands.specs.Slopes.{SlopeFilling};

@@ -1,5 +1,7 @@
 // The program `levels` of 01: reads a sheet from standard input, at most 25,619 bytes, and prints a line for each of its pixels, or the number that refuses it.
 // No contract speaks of what is read and written. Which text comes next, and that the texts are all that is to be printed, is proved in `program_listing`.
+#![tactic(auto)]
+
 use libc::{STDIN_FILENO, STDOUT_FILENO};
 use program_listing::{INPUT_ROOM, ROW_ROOM, next_text};
 

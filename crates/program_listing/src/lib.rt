@@ -1,4 +1,6 @@
 // The texts that the program `levels` prints one after the other: the rows of an accepted sheet, or the line of a refusal.
+#![tactic(auto)]
+
 pub mod theorems;
 
 ghost use Rattle.std.specs.Prelude.{◌≡◌, ◌+◌, ◌≤◌, length};

@@ -1,6 +1,8 @@
 // The program `reach` of 02, #105: reads a sheet, a column byte and a row byte from standard input, at most 25,621 bytes, and prints the positions of the left,
 // top, right and bottom outermost lines of the cells that touch this node, or the number that refuses it.
 // No contract speaks of what is read and written. Which line is to be printed is proved in `program_reach_line`.
+#![tactic(auto)]
+
 use libc::{STDIN_FILENO, STDOUT_FILENO};
 use program_reach_line::{INPUT_ROOM, LINE_ROOM, reach_text};
 

@@ -1,4 +1,6 @@
 // The line that the program `reach` prints: the outermost lines of the cells that a node touches, or the number of a refusal.
+#![tactic(auto)]
+
 pub mod theorems;
 
 ghost use Rattle.std.specs.Prelude.{◌≡◌, ◌≤◌, length};

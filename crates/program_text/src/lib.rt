@@ -1,4 +1,6 @@
 // Numbers in decimal and whole lines as ASCII text, written into lent memory. Each call answers the index behind what it wrote.
+#![tactic(auto)]
+
 pub mod theorems;
 
 ghost use Rattle.std.specs.Prelude.{◌≡◌, ◌+◌, ◌≤◌, length};

@@ -1,4 +1,6 @@
 // The checks that every call makes of its sheet: which of the conditions 1 to 6 is the first to hold.
+#![tactic(auto)]
+
 ghost use Rattle.std.specs.Prelude.{◌≡◌, false, ◌+◌, ◌*◌, ◌≤◌, ◌<◌, length};
 ghost use Rattle.sheet_layout.specs.Format.{header_size, columns, rows, line_from, stated_size};
 ghost use Rattle.sheet_layout.specs.Some.{some};

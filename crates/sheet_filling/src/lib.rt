@@ -1,4 +1,6 @@
 // Slopes filled from heights: all are looked at before the first is written.
+#![tactic(auto)]
+
 ghost use Rattle.std.specs.Prelude.{◌≡◌, ◌<◌};
 ghost use Rattle.sheet_layout.specs.Format.{columns, rows};
 ghost use Rattle.sheet_slopes.specs.Slopes.{slope_refusal, with_slopes};

@@ -1,4 +1,6 @@
 // The bytes of a sheet: where its parts lie, what they hold, and a node's bytes read and written.
+#![tactic(auto)]
+
 pub mod header;
 pub mod neighbours;
 pub mod ranges;

@@ -1,4 +1,6 @@
 // Nodes of a sheet: looked up, with the number of a refusal beside, and set.
+#![tactic(auto)]
+
 ghost use Rattle.std.specs.Prelude.{◌≡◌, ◌+◌, ◌≤◌, length};
 ghost use Rattle.sheet_layout.specs.Format.{header_size, node, node_size, node_offset};
 ghost use Rattle.sheet_calls.specs.Refusals.{no_node, wrong_numbers, lookup_refusal, setting_refusal};

@@ -1,4 +1,6 @@
 // Two sheets pooled into a target: all sums are looked at before the first byte is written.
+#![tactic(auto)]
+
 ghost use Rattle.std.specs.Prelude.{◌≡◌, not, ◌+◌, ◌*◌, ◌≤◌, eqb, length, take};
 ghost use Rattle.sheet_words.specs.Word.{replaced};
 ghost use Rattle.sheet_layout.specs.Some.{some};

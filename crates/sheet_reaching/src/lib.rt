@@ -1,4 +1,6 @@
 // How far one node reaches: the input taken apart, the refusals, and the outermost lines of the cells that touch the node.
+#![tactic(auto)]
+
 ghost use Rattle.std.specs.Prelude.{◌≡◌};
 ghost use Rattle.sheet_calls.specs.Refusals.{lookup_refusal};
 ghost use Rattle.sheet_reach.specs.Reach.{outermost, told, reach_answer};

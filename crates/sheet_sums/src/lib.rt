@@ -1,4 +1,6 @@
 // The sums of two sheets' node numbers: looked at, and written to a target. Both go through the numbers of all nodes in one loop, three a node.
+#![tactic(auto)]
+
 ghost use Rattle.std.specs.Prelude.{◌≡◌, not, ◌+◌, ◌*◌, ◌≤◌, ◌<◌, length};
 ghost use Rattle.integers.specs.Within.{◌within◌};
 ghost use Rattle.sheet_words.specs.Word.{word_at, signed, bits_of, replaced};

@@ -1,4 +1,6 @@
 // Numbers of 16 bits in bytes, the low byte first: read, written, and signed ones brought to 16 bits.
+#![tactic(auto)]
+
 pub mod theorems;
 
 ghost use Rattle.std.specs.Prelude.{◌≡◌, ◌+◌, ◌<◌, length};

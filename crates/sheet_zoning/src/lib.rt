@@ -1,4 +1,6 @@
 // Zones on the screen, in code: whether a list of them is refused, the clamp that those at a pixel make, and how far along its row it is the same.
+#![tactic(auto)]
+
 pub mod list;
 pub mod zone;
 
@@ -8,7 +10,7 @@ ghost use Rattle.sheet_zoning.specs.Clamps.{clamp_at, clamped, leaves_all, Stret
 use zone::{holds, limited_by, lowered, raised, same_until};
 
 // A clamp of levels: from a least to a greatest.
-#[derive(Drop)]
+#[derive(Clone, Copy)]
 pub struct Clamp {
     pub least: i32,
     pub greatest: i32,

@@ -1,11 +1,13 @@
 // What a reading answers: 01's three readings as whole numbers, each with its divisor, and the answer with the quotients as 64-bit floats.
+#![tactic(auto)]
+
 pub mod theorems;
 
 ghost use Rattle.std.specs.Prelude.{◌≡◌, [], ◌∷◌};
 ghost use Rattle.surface_answers.specs.Answers.{outcome, answered, FitsFloat};
 
 // One of three readings, in steps, in steps per pixel and in steps per pixel per pixel, or the number of a refusal.
-#[derive(Drop)]
+#[derive(Clone, Copy)]
 pub enum Answer {
     Level(f64),
     Tilt(f64, f64),
@@ -14,20 +16,20 @@ pub enum Answer {
 }
 
 // A level, in grains.
-#[derive(Drop)]
+#[derive(Clone, Copy)]
 pub struct LevelReading {
     pub height: i64,
 }
 
 // A tilt, in grains per pixel.
-#[derive(Drop)]
+#[derive(Clone, Copy)]
 pub struct TiltReading {
     pub x: i64,
     pub y: i64,
 }
 
 // A bend, in 1/64 grain per pixel per pixel.
-#[derive(Drop)]
+#[derive(Clone, Copy)]
 pub struct BendReading {
     pub xx: i64,
     pub xy: i64,

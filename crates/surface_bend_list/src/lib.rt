@@ -1,4 +1,6 @@
 // Listing the bends from each piece that touches a pixel: the refusals, and the list in the lent buffer, cell by cell.
+#![tactic(auto)]
+
 ghost use Rattle.std.specs.Prelude.{◌≡◌, ◌+◌, ◌≤◌, length};
 ghost use Rattle.std.proofs.lemmas.List.Edits.{sets};
 ghost use Rattle.sheet_layout.specs.Format.{columns, rows, line_x, line_y};

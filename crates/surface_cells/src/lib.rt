@@ -1,4 +1,6 @@
 // The corner numbers of a cell of an accepted sheet.
+#![tactic(auto)]
+
 ghost use Rattle.std.specs.Prelude.{◌≡◌};
 ghost use Rattle.element_sibson.specs.Element.{corner_numbers};
 ghost use Rattle.element_cell.specs.Cell.{Side, cell};

@@ -1,4 +1,6 @@
 // Filling a run: its refusals, and then its levels, each stored once in the caller's row.
+#![tactic(auto)]
+
 ghost use Rattle.std.specs.Prelude.{◌≡◌, length};
 ghost use Rattle.sheet_calls.specs.Refusals.{off_mesh, run_refusal, Accepted};
 ghost use Rattle.surface_of_sheet.specs.Run.{filled};

@@ -1,4 +1,6 @@
 // Reading at a pixel: the level, the tilt or the bend, or the number of a refusal.
+#![tactic(auto)]
+
 ghost use Rattle.std.specs.Prelude.{◌≡◌, [], ◌∷◌};
 ghost use Rattle.element_cell.specs.Cell.{pixel_cell, pixel_point, PixelInCell};
 ghost use Rattle.element_cell.specs.Coefficients.{halves, Sized};
@@ -17,7 +19,7 @@ use surface_answers::{Answer, BendReading, LevelReading, TiltReading};
 use surface_places::{find, outside, read_place};
 
 // The cubic that a pixel is read from, by its doubled coefficients, and the pixel in its cell.
-#[derive(Drop)]
+#[derive(Clone, Copy)]
 struct LocatedCubic {
     coefficients: [i64; 10],
     pixel: Pixel,

@@ -1,4 +1,6 @@
 // Where a pixel lies on a sheet: outside the mesh, or in cells, at offsets in each; and the place that it is read at.
+#![tactic(auto)]
+
 ghost use Rattle.std.specs.Prelude.{◌≡◌, suc, ◌+◌, ◌*◌, ◌-◌, ◌≤◌, ◌<◌, length};
 ghost use Rattle.sheet_layout.specs.Format.{columns, rows, line_from, line_x, line_y};
 ghost use Rattle.sheet_calls.specs.Refusals.{outside};
@@ -11,21 +13,21 @@ use sheet_layout::header::{columns, rows};
 use sheet_layout::{X_LINES_OFFSET, line_from, y_lines_offset};
 
 // The lowest and the highest cell along an axis that touch a position. They differ on inner lines alone.
-#[derive(Drop)]
+#[derive(Clone, Copy)]
 pub struct Cells {
     pub lowest: usize,
     pub highest: usize,
 }
 
 // The columns and the rows of cells that touch a pixel.
-#[derive(Drop)]
+#[derive(Clone, Copy)]
 pub struct Found {
     pub columns: Cells,
     pub rows: Cells,
 }
 
 // A cell, by its column and row, that touches a pixel; the pixel in that cell; and a piece of it.
-#[derive(Drop)]
+#[derive(Clone, Copy)]
 pub struct Place {
     pub column: usize,
     pub row: usize,
@@ -34,7 +36,7 @@ pub struct Place {
 }
 
 // In a cell along one axis, the offset of a position from the cell's first line, and the cell's size.
-#[derive(Drop)]
+#[derive(Clone, Copy)]
 struct OnAxis {
     offset: usize,
     size: usize,

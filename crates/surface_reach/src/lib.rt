@@ -1,2 +1,4 @@
 // One height of a sheet nudged: which levels change, which way, and by how much. Definitions and theorems.
+#![tactic(auto)]
+
 pub mod theorems;

@@ -1,4 +1,6 @@
 // Levels along a row of pixels of an accepted sheet, from left to right, one column of cells after the other.
+#![tactic(auto)]
+
 ghost use Rattle.std.specs.Prelude.{◌≡◌, suc, ◌+◌, ◌-◌, ◌≤◌, ◌<◌, length};
 ghost use Rattle.integers.specs.Stepwise.{steps};
 ghost use Rattle.sheet_layout.specs.Format.{columns, line_x};
@@ -16,7 +18,7 @@ use surface_cells::corner_numbers;
 use surface_places::{find, read_place};
 
 // The cells that a row of pixels lies in: their row, the pixels' offset from their top edge, their height.
-#[derive(Drop)]
+#[derive(Clone, Copy)]
 pub struct Strip {
     pub row: usize,
     pub offset: usize,

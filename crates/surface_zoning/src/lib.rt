@@ -1,4 +1,6 @@
 // Zoned levels and zoned runs: their refusals; a run goes from left to right by stretches of pixels that the same zones hold.
+#![tactic(auto)]
+
 ghost use Rattle.std.specs.Prelude.{◌≡◌, length};
 ghost use Rattle.sheet_calls.specs.WellFormed.{OnMesh};
 ghost use Rattle.sheet_zoning.specs.Clamps.{Stretch};

@@ -4,6 +4,8 @@
 // A case is three numbers of 16 bits (the length of its name, that of its sheet, how many calls), the name, the sheet, and 21 bytes for each call: its
 // letter and five numbers of 32 bits (column, row, height, x-slope, y-slope; of a reading x, y, kind; of a run x, y, how many slots). Numbers have
 // their low byte first.
+#![tactic(auto)]
+
 mod input;
 mod lines;
 mod readings;

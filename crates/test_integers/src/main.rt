@@ -1,5 +1,7 @@
 // Runs the three ways to divide on numbers about ties, signs, the reach of the guess and the ends of the range. The expected output is from
 // exact arithmetic on fractions. A line: numerator, denominator, rounded down, rounded, and, where the guess reaches, rounded by prepared constants.
+#![tactic(auto)]
+
 ghost use Rattle.integers.specs.Ratio.{Ratio};
 
 use integers::Denominator;

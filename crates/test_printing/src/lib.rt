@@ -1,4 +1,6 @@
 // Signed numbers in decimal on standard output, for the test programs.
+#![tactic(auto)]
+
 use libc::STDOUT_FILENO;
 
 // A number and a blank.
