@@ -96,8 +96,8 @@ turned {C = C} d e w = record {
     linear = λ k t. square_rotated k (w.D (next k)) (w.meets.linear (next k) (e k t));
   };
   corners = corners_rotated (on_side C) w.D w.corners;
-  where_not = next (next (next w.where-not));
-  not_zero = λ z. w.not-zero (subst (λ k. Zero (w.D k)) (four_turns w.where-not) (zero_rotated (w.D (next (next (next (next w.where-not))))) z));
+  where_not = next (next (next w.where_not));
+  not_zero = λ z. w.not_zero (subst (λ k. Zero (w.D k)) (four_turns w.where_not) (zero_rotated (w.D (next (next (next (next w.where_not))))) z));
 }
 
 -- from coefficients that pass the tests, one of which is not 0
@@ -122,8 +122,8 @@ fewer d e w = record {
   D = w.D;
   meets = record { smooth = λ k t. w.meets.smooth k (d k t); linear = λ k t. w.meets.linear k (e k t) };
   corners = w.corners;
-  where_not = w.where-not;
-  not_zero = w.not-zero;
+  where_not = w.where_not;
+  not_zero = w.not_zero;
 }
 
 -- ---- all half diagonals and three edges
@@ -240,7 +240,7 @@ counterexample {C = C} w = let m = meets all all zeros C zeros_pass in record {
   meets' = record { smooth = λ k t. m.smooth k tt; linear = λ k t. m.linear k tt };
   corners = λ k c t. ≋_trans {j = jet C (w.D k) (at c)} {k = none} {l = jet C (cubics zeros k) (at c)} (w.corners k c t)
       (≋_sym (corners all all zeros C zeros_pass k c t));
-  unequal = λ e. w.not-zero (λ p. zero_of_nothing (w.D w.where-not) w.where-not p (e w.where-not));
+  unequal = λ e. w.not_zero (λ p. zero_of_nothing (w.D w.where_not) w.where_not p (e w.where_not));
 }
 
 pub needed : Needed

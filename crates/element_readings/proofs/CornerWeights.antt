@@ -133,14 +133,14 @@ share c k P o =
     }
 
 least : (c : Corner) (k : Piece) (P : Point) → On k P → whole (pos 0) ≤ℚ value (weight_of c k) P
-least c k P o = let s = share c k P o in ≤_right (record { crossed = ≤→≤ℤ (omega arith) }) (≈_sym s.value-is)
+least c k P o = let s = share c k P o in ≤_right (record { crossed = ≤→≤ℤ (omega arith) }) (≈_sym s.value_is)
 
 most : (c : Corner) (k : Piece) (P : Point) → On k P → value (weight_of c k) P ≤ℚ whole (pos 1)
-most c k P o = let s = share c k P o in ≤_left s.value-is (record { crossed = ≤→≤ℤ (omega arith) })
+most c k P o = let s = share c k P o in ≤_left s.value_is (record { crossed = ≤→≤ℤ (omega arith) })
 
 only_there : (c : Corner) (k : Piece) (P : Point) → On k P → value (weight_of c k) P ≈ whole (pos 1) → IsAt c P
 only_there c k P o e = let s = share c k P o in
-    let w : s.weight * 1 ≡ 1 * (2 * (cube s.Q).number) = pos_inj (≈_trans (≈_sym s.value-is) e).crossed in
+    let w : s.weight * 1 ≡ 1 * (2 * (cube s.Q).number) = pos_inj (≈_trans (≈_sym s.value_is) e).crossed in
     s.there (no_cube s.across (omega arith)) (no_cube s.down (omega arith))
 
 pub corner_weights : CornerWeights

@@ -20,7 +20,7 @@ use Rattle.element_readings.specs.Reading.{rounded, level_of, tilt_xof, tilt_yof
 
 distances : (x : ℚ) → whole (rounded x) -ℚ x withinℚ half
 unfolding rounded
-distances x = let n = x.numerator in let d = x.denominator in let h = rounding_laws.half-unit n d.number d.above in record {
+distances x = let n = x.numerator in let d = x.denominator in let h = rounding_laws.half_unit n d.number d.above in record {
   lower = record {
     crossed = deduce 3 (λ q n d. (# 1 · (⊖ d ≼ # 2 ⊗ (q ⊗ d ⊝ n))) ∷ [] ⊨ ⊖ # 1 ⊗ # 1 ⊗ (# 1 ⊗ d) ≼ (q ⊗ d ⊕ ⊖ # 1 ⊗ n ⊗ # 1) ⊗ (# 1 ⊗ # 2)) tt
         (rounded x) n (pos d.number) (within_lower h);

@@ -36,7 +36,7 @@ rounded_in_reach {n} {k} h l = record { prepared = h; quotient = subst (λ z. z 
     product = round n d *ℤ pos d
 
     half : (pos 2 *ℤ (product -ℤ n)) within d
-    half = rounding_laws.half-unit n d (positive h)
+    half = rounding_laws.half_unit n d (positive h)
 
     near : (product -ℤ (product -ℤ n)) within (2 ^ 24 * d)
     near = within_mono (within-- (within-* l (within_self (pos d))) (within_self (product -ℤ n))) (omega (arith, half.bound, nat_abs-* (pos 2) (product -ℤ n)))

@@ -32,7 +32,7 @@ two m n d p = between q (2 * d)
     q = round (m +ℤ n) d -ℤ (round m d +ℤ round n d)
 
     error : (k : ℤ) → (pos 2 *ℤ (round k d *ℤ pos d -ℤ k)) within d
-    error k = rounding_laws.half-unit k d p
+    error k = rounding_laws.half_unit k d p
 
     errors : (q *ℤ pos (2 * d)) within (d + (d + d))
     errors = subst (λ x. x within (d + (d + d)))

@@ -18,42 +18,42 @@ module _ (s : tie.Start) where
 
   -- those of the pieces ks are stored, one behind the other, up to index i of l
   abbrev Pieces : List Piece → List ℤ → ℕ → Type 0
-  Pieces ks l i = Stored s.args.list.now s.args.at (foldl (λ done k. done ++ bends k) [] ks) l i
+  Pieces ks l i = Stored s.args.list-1.now s.args.at (foldl (λ done k. done ++ bends k) [] ks) l i
 
   four : foldl (λ done k. done ++ bends k) [] (top ∷ right ∷ bottom ∷ left ∷ []) ≡ cell_bends (corners s.args.n) s.args.p
   unfolding cell_bends flat_map
   four = rw (append-nil, append_assoc, append_assoc) refl
 
-one : (c : tie.After-piece-bends) → Pieces c.before.before (top ∷ []) c.piece-bends.new.1.1.1.0 c.piece-bends.result
+one : (c : tie.After-piece_bends-second) → Pieces c.before.before (top ∷ []) c.piece_bends-second.new.1.1.1.0 c.piece_bends-second.result
 unfolding piece_of
-one c = goes_on none_stored _ c.piece-bends.ensures
+one c = goes_on none_stored _ c.piece_bends-second.ensures
 
-two : (c : tie.After-piece-bends2) → Pieces c.before.before.before.before.before (top ∷ right ∷ []) c.piece-bends2.new.1.1.1.0 c.piece-bends2.result
+two : (c : tie.After-piece_bends-third) → Pieces c.before.before.before.before.before (top ∷ right ∷ []) c.piece_bends-third.new.1.1.1.0 c.piece_bends-third.result
 unfolding piece_of
-two c = goes_on (one c.before.before.before) _ c.piece-bends2.ensures
+two c = goes_on (one c.before.before.before) _ c.piece_bends-third.ensures
 
-three : (c : tie.After-piece-bends3) →
-    Pieces c.before.before.before.before.before.before.before.before (top ∷ right ∷ bottom ∷ []) c.piece-bends3.new.1.1.1.0 c.piece-bends3.result
+three : (c : tie.After-piece_bends-fourth) →
+    Pieces c.before.before.before.before.before.before.before.before (top ∷ right ∷ bottom ∷ []) c.piece_bends-fourth.new.1.1.1.0 c.piece_bends-fourth.result
 unfolding piece_of
-three c = goes_on (two c.before.before.before) _ c.piece-bends3.ensures
+three c = goes_on (two c.before.before.before) _ c.piece_bends-fourth.ensures
 
-piece-bends-requires : tie.Need-piece-bends-requires
+piece-bends-requires : tie.Need-piece_bends-second-requires
 unfolding piece_of cell_bends flat_map
-piece-bends-requires c κs = let s = c.before in let h = s.requires in (h.0, h.1, fits {l₀ = s.args.list.now} none_stored (bends s top) (flat_map (bends s) (right ∷ bottom ∷ left ∷ [])) h.2)
+piece-bends-requires c κs = let s = c.before in let h = s.requires in (h.0, h.1, fits {l₀ = s.args.list-1.now} none_stored (bends s top) (flat_map (bends s) (right ∷ bottom ∷ left ∷ [])) h.2)
 
-piece-bends-requires-2 : tie.Need-piece-bends-requires-2
+piece-bends-requires-2 : tie.Need-piece_bends-third-requires
 unfolding piece_of cell_bends flat_map
 piece-bends-requires-2 c κs =
     let d = c.before.before in let s = d.before.before in let h = s.requires in
     (h.0, h.1, fits (one d) (bends s right) (flat_map (bends s) (bottom ∷ left ∷ [])) h.2)
 
-piece-bends-requires-3 : tie.Need-piece-bends-requires-3
+piece-bends-requires-3 : tie.Need-piece_bends-fourth-requires
 unfolding piece_of cell_bends flat_map
 piece-bends-requires-3 c κs =
     let d = c.before.before in let s = d.before.before.before.before.before in let h = s.requires in
     (h.0, h.1, fits (two d) (bends s bottom) (bends s left ++ []) (rw append_assoc h.2))
 
-piece-bends-requires-4 : tie.Need-piece-bends-requires-4
+piece-bends-requires-4 : tie.Need-piece_bends-requires
 unfolding piece_of cell_bends flat_map
 piece-bends-requires-4 c κs =
     let d = c.before.before in let s = d.before.before.before.before.before.before.before.before in let h = s.requires in
@@ -62,11 +62,11 @@ piece-bends-requires-4 c κs =
 returns : tie.Need-returns
 unfolding piece_of
 returns c =
-    let e = goes_on (three c.before.before.before.before) _ c.before.piece-bends4.ensures in
+    let e = goes_on (three c.before.before.before.before) _ c.before.piece_bends.ensures in
     rw (← four _) (e.behind, e.holds)
 
-pub cell-bends-spec : {M : Type 1} → statement M
-cell-bends-spec =
+pub cell_bends_spec : {M : Type 1} → statement M
+cell_bends_spec =
     tie.close
     (tie.spec
     piece-bends-requires

@@ -38,36 +38,36 @@ module _ (s : tie.Start) where
   unfolding piece_bends bends_of
   bends_are e = ap (λ b. cond b three []) e
 
-abbrev start : tie.Else1 → tie.Start
+abbrev start : tie.Else-not-holds → tie.Start
 start c = c.before.before
 
-three-bends : (c : tie.Else1) → let a = (start c).args in piece_bends (corners a.n) a.p (piece_of a.piece) ≡ three (start c)
-three-bends c = bends_are (start c) (sym c.before.holds.ensures ∙ not-false _ c.if1.false)
+three-bends : (c : tie.Else-not-holds) → let a = (start c).args in piece_bends (corners a.n) a.p (piece_of a.piece) ≡ three (start c)
+three-bends c = bends_are (start c) (sym c.before.holds.ensures ∙ not-false _ c.if-not-holds.false)
 
-room : (c : tie.Else1) → (start c).args.at + 3 ≤ length (start c).args.list.now
+room : (c : tie.Else-not-holds) → (start c).args.at + 3 ≤ length (start c).args.list.now
 room c = omega (arith, (start c).requires.2, ap length (three-bends c))
 
-module _ (c : tie.After-coefficients) where
-  asked : Sized c.coefficients.result × PixelInCell (start c.before).args.p
-  asked = let h = (start c.before).requires in (piece_sized _ h.0 _ c.coefficients.ensures, h.1)
+module _ (c : tie.After-coefficients-k) where
+  asked : Sized c.coefficients-k.result × PixelInCell (start c.before).args.p
+  asked = let h = (start c.before).requires in (piece_sized _ h.0 _ c.coefficients-k.ensures, h.1)
 
   -- a reading of what the code evaluates is that of the piece
-  same : (f : Cell → Cubic → Point → ℤ) → let p = (start c.before).args.p in f (pixel_cell p) (halves c.coefficients.result) (pixel_point p) ≡ read (start c.before) f
-  same f = let p = (start c.before).args.p in ap (λ g. f (pixel_cell p) g (pixel_point p)) (ap halves c.coefficients.ensures ∙ joined.back _ _)
+  same : (f : Cell → Cubic → Point → ℤ) → let p = (start c.before).args.p in f (pixel_cell p) (halves c.coefficients-k.result) (pixel_point p) ≡ read (start c.before) f
+  same f = let p = (start c.before).args.p in ap (λ g. f (pixel_cell p) g (pixel_point p)) (ap halves c.coefficients-k.ensures ∙ joined.back _ _)
 
-returns : tie.Need-returns
-returns c = rw (bends_are c.before.before (sym c.before.holds.ensures ∙ not-true _ c.if1.true)) (sym (add-zero _), refl)
+returns : tie.Need-returns-then-not-holds
+returns c = rw (bends_are c.before.before (sym c.before.holds.ensures ∙ not-true _ c.if-not-holds.true)) (sym (add-zero _), refl)
 
-returns-2 : tie.Need-returns-2
+returns-2 : tie.Need-returns
 returns-2 c =
     let y = c.before in let x = y.before in let k = x.before in let s = start k.before in
-    let xx = unchanged w64 x.bend-xx-of.type-inv ∙ x.bend-xx-of.ensures ∙ same k bend_xxof in
-    let xy = unchanged w64 y.bend-xy-of.type-inv ∙ y.bend-xy-of.ensures ∙ same k bend_xyof in
-    let yy = unchanged w64 c.bend-yy-of.type-inv ∙ c.bend-yy-of.ensures ∙ same k bend_yyof in
+    let xx = unchanged w64 x.bend_xx_of.type_inv ∙ x.bend_xx_of.ensures ∙ same k bend_xxof in
+    let xy = unchanged w64 y.bend_xy_of.type_inv ∙ y.bend_xy_of.ensures ∙ same k bend_xyof in
+    let yy = unchanged w64 c.bend_yy_of.type_inv ∙ c.bend_yy_of.ensures ∙ same k bend_yyof in
     rw (three-bends k.before) (refl, λ t. set (set (set s.args.list.now s.args.at (xx t)) (add-one s.args.at t) (xy t)) (add-two s.args.at t) (yy t))
 
-pub piece-bends-spec : {M : Type 1} → statement M
-piece-bends-spec =
+pub piece_bends_spec : {M : Type 1} → statement M
+piece_bends_spec =
     tie.close
     (tie.spec
     (λ c κs. search rules)

@@ -7,24 +7,24 @@ use Rattle.element_cell.proofs.Pieces.{products, held}
 use Rattle.element_cell.proofs.holds.Statement.{statement}
 use Rattle.element_cell.proofs.holds.Tie as tie
 
-returns : tie.Need-returns
+returns : tie.Need-returns-in-Top
 unfolding piece_of
-returns c = rw c.enum_told.given.1 (held _ c.before.before.before.before.before.requires top)
+returns c = rw c.enum_told-1.given.1 (held _ c.before.before.before.before.before.requires top)
 
-returns-2 : tie.Need-returns-2
+returns-2 : tie.Need-returns-in-Right
 unfolding piece_of
-returns-2 c = rw c.enum-told2.given.1 (held _ c.before.before.before.before.before.requires right)
+returns-2 c = rw c.enum_told-in-Right-1.given.1 (held _ c.before.before.before.before.before.requires right)
 
-returns-3 : tie.Need-returns-3
+returns-3 : tie.Need-returns-in-Bottom
 unfolding piece_of
-returns-3 c = rw c.enum-told3.given.1 (held _ c.before.before.before.before.before.requires bottom)
+returns-3 c = rw c.enum_told-in-Bottom-1.given.1 (held _ c.before.before.before.before.before.requires bottom)
 
-returns-4 : tie.Need-returns-4
+returns-4 : tie.Need-returns-in-Left
 unfolding piece_of
-returns-4 c = rw c.enum-told4.given.1 (held _ c.before.before.before.before.before.requires left)
+returns-4 c = rw c.enum_told-in-Left-1.given.1 (held _ c.before.before.before.before.before.requires left)
 
-pub holds-spec : {M : Type 1} → statement M
-holds-spec =
+pub holds_spec : {M : Type 1} → statement M
+holds_spec =
     tie.close
     (tie.spec
     (λ c. record { fits = omega (arith, products _ c.before.requires) })

@@ -6,24 +6,24 @@ use Rattle.element_cell.proofs.Pieces.{products, at_top, at_right, at_bottom, at
 use Rattle.element_cell.proofs.piece_at.Statement.{statement}
 use Rattle.element_cell.proofs.piece_at.Tie as tie
 
-returns : tie.Need-returns
+returns : tie.Need-returns-then-x-y
 unfolding named
-returns c = ap named (at_top _ c.before.before.before.before.before.requires c.before.if1.true c.if2.true)
+returns c = ap named (at_top _ c.before.before.before.before.before.requires c.before.if-y-x.true c.if-x-y.true)
 
-returns-2 : tie.Need-returns-2
+returns-2 : tie.Need-returns-then-y-x
 unfolding named
-returns-2 c = ap named (at_right _ c.before.before.before.before.before.requires c.before.if1.true c.if2.false)
+returns-2 c = ap named (at_right _ c.before.before.before.before.before.requires c.before.if-y-x.true c.if-x-y.false)
 
-returns-3 : tie.Need-returns-3
+returns-3 : tie.Need-returns-then-q-x
 unfolding named
-returns-3 c = ap named (at_bottom _ c.before.before.before.before.before.requires c.before.if1.false c.if3.true)
+returns-3 c = ap named (at_bottom _ c.before.before.before.before.before.requires c.before.if-y-x.false c.if-q-x.true)
 
-returns-4 : tie.Need-returns-4
+returns-4 : tie.Need-returns
 unfolding named
-returns-4 c = ap named (at_left _ c.before.before.before.before.before.requires c.before.if1.false c.if3.false)
+returns-4 c = ap named (at_left _ c.before.before.before.before.before.requires c.before.if-y-x.false c.if-q-x.false)
 
-pub piece-at-spec : {M : Type 1} → statement M
-piece-at-spec =
+pub piece_at_spec : {M : Type 1} → statement M
+piece_at_spec =
     tie.close
     (tie.spec
     (λ c. record { fits = omega (arith, products _ c.before.requires) })

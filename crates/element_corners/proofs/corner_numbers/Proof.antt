@@ -14,9 +14,9 @@ required : (s : tie.Start) (c : Corner) →
     ((corners s.args.t1 c).x_slope within 4095) × ((corners s.args.t1 c).y_slope within 4095) × Side s.args.width × Side s.args.height
 required s c = (s.requires.0.x_slopes c, s.requires.0.y_slopes c, s.requires.1, s.requires.2)
 
-pub corner-numbers-spec : {M : Type 1} → statement M
+pub corner_numbers_spec : {M : Type 1} → statement M
 unfolding corners three arrays numbers_of corner_numbers
-corner-numbers-spec = tie.close (tie.spec
+corner_numbers_spec = tie.close (tie.spec
     (λ c. lit< tt)
     (λ c κs. required c.before left_top)
     (λ c. lit< tt)
@@ -26,4 +26,4 @@ corner-numbers-spec = tie.close (tie.spec
     (λ c. lit< tt)
     (λ c κs. required c.before.before.before.before.before.before.before right_bottom)
     (λ c i. let d = c.before.before in let b = d.before.before in let a = b.before.before in
-    a.scaled.ensures i ∷ b.scaled2.ensures i ∷ d.scaled3.ensures i ∷ c.scaled4.ensures i ∷ []))
+    a.scaled.ensures i ∷ b.scaled-2.ensures i ∷ d.scaled-3.ensures i ∷ c.scaled-4.ensures i ∷ []))

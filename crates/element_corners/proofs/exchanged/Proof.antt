@@ -10,9 +10,9 @@ use Rattle.element_corners.proofs.exchanged.Tie as tie
 returns : tie.Need-returns
 unfolding corners arrays exchanged
 returns c i = let d = c.before.before in let b = d.before.before in let a = b.before.before in
-    a.swap.ensures i ∷ b.swap2.ensures i ∷ d.swap3.ensures i ∷ c.swap4.ensures i ∷ []
+    a.swap.ensures i ∷ b.swap-2.ensures i ∷ d.swap-3.ensures i ∷ c.swap-4.ensures i ∷ []
 
-pub exchanged-spec : {M : Type 1} → statement M
-exchanged-spec = tie.close (tie.spec
+pub exchanged_spec : {M : Type 1} → statement M
+exchanged_spec = tie.close (tie.spec
     (λ c. lit< tt) (λ c κs. search rules) (λ c. lit< tt) (λ c κs. search rules) (λ c. lit< tt) (λ c κs. search rules) (λ c. lit< tt) (λ c κs. search rules)
     returns)

@@ -7,9 +7,9 @@ use Rattle.element_cell.specs.Corners.{corners, arrays}
 use Rattle.element_corners.proofs.left_right.Statement.{statement}
 use Rattle.element_corners.proofs.left_right.Tie as tie
 
-pub left-right-spec : {M : Type 1} → statement M
+pub left_right_spec : {M : Type 1} → statement M
 unfolding corners arrays left_right
-left-right-spec = tie.close (tie.spec
+left_right_spec = tie.close (tie.spec
     (λ c. lit< tt)
     (λ c κs. c.before.requires.x_slopes right_top)
     (λ c. lit< tt)
@@ -19,4 +19,4 @@ left-right-spec = tie.close (tie.spec
     (λ c. lit< tt)
     (λ c κs. c.before.before.before.before.before.before.before.requires.x_slopes left_bottom)
     (λ c i. let d = c.before.before in let b = d.before.before in let a = b.before.before in
-    a.negate-x.ensures i ∷ b.negate-x2.ensures i ∷ d.negate-x3.ensures i ∷ c.negate-x4.ensures i ∷ []))
+    a.negate_x.ensures i ∷ b.negate_x-2.ensures i ∷ d.negate_x-3.ensures i ∷ c.negate_x-4.ensures i ∷ []))

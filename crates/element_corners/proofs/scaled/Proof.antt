@@ -17,26 +17,26 @@ abbrev across : tie.After-length → Operand
 across c = let s = c.before.before in
     returned w64 c.length.ensures (length_within s.requires.2.most) tt ⊠ known w64 s.requires.0 tt
 
-abbrev down : tie.After-length2 → Operand
+abbrev down : tie.After-length-2 → Operand
 down c = let s = c.before.before.before.before in
-    returned w64 c.length2.ensures (length_within s.requires.3.most) tt ⊠ known w64 s.requires.1 tt
+    returned w64 c.length-2.ensures (length_within s.requires.3.most) tt ⊠ known w64 s.requires.1 tt
 
-mul-t12 : tie.Need-overflow-mul-t12
+mul-t12 : tie.Need-overflow_mul-result
 unfolding jet_of
 mul-t12 c = asks w64 (across c.before) tt
 
-mul-t17 : tie.Need-overflow-mul-t17
+mul-t17 : tie.Need-overflow_mul-result-2
 unfolding jet_of
 mul-t17 c = asks w64 (down c.before) tt
 
 returns : tie.Need-returns
 unfolding jet_of three numbers_of corner_numbers cell
 returns c i = let d = c.before in let a = d.before.before in let s = a.before.before in
-    kept s.args.t1 s.well-formed.0 0 i ∷
+    kept s.args.t1 s.well_formed.0 0 i ∷
     (gives w64 (across a) tt ∙ (λ j. pos (sym (side_is s.requires.2) j) *ℤ (jet_of s.args.t1).x_slope)) i ∷
     (gives w64 (down d) tt ∙ (λ j. pos (sym (side_is s.requires.3) j) *ℤ (jet_of s.args.t1).y_slope)) i ∷ []
 
-pub scaled-spec : {M : Type 1} → statement M
-scaled-spec = tie.close (tie.spec
+pub scaled_spec : {M : Type 1} → statement M
+scaled_spec = tie.close (tie.spec
     (λ c. lit< tt) (λ c κs. c.before.requires.2.most) (λ c. lit< tt) mul-t12
     (λ c κs. c.before.before.before.requires.3.most) (λ c. lit< tt) mul-t17 returns)

@@ -7,9 +7,9 @@ use Rattle.element_cell.specs.Corners.{corners, arrays}
 use Rattle.element_corners.proofs.top_down.Statement.{statement}
 use Rattle.element_corners.proofs.top_down.Tie as tie
 
-pub top-down-spec : {M : Type 1} → statement M
+pub top_down_spec : {M : Type 1} → statement M
 unfolding corners arrays top_down
-top-down-spec = tie.close (tie.spec
+top_down_spec = tie.close (tie.spec
     (λ c. lit< tt)
     (λ c κs. c.before.requires.y_slopes left_bottom)
     (λ c. lit< tt)
@@ -19,4 +19,4 @@ top-down-spec = tie.close (tie.spec
     (λ c. lit< tt)
     (λ c κs. c.before.before.before.before.before.before.before.requires.y_slopes right_top)
     (λ c i. let d = c.before.before in let b = d.before.before in let a = b.before.before in
-    a.negate-y.ensures i ∷ b.negate-y2.ensures i ∷ d.negate-y3.ensures i ∷ c.negate-y4.ensures i ∷ []))
+    a.negate_y.ensures i ∷ b.negate_y-2.ensures i ∷ d.negate_y-3.ensures i ∷ c.negate_y-4.ensures i ∷ []))

@@ -13,21 +13,21 @@ use Rattle.element_differences.proofs.differences.Statement.{statement}
 use Rattle.element_differences.proofs.differences.Tie as tie
 
 -- from what has been returned as the offset's length
-module _ (l : tie.After-length) where
+module _ (l : tie.After-length-a) where
   abbrev a : Operand
-  a = returned w64 l.length.ensures (length_within l.before.requires.0) tt
+  a = returned w64 l.length-a.ensures (length_within l.before.requires.0) tt
 
   abbrev next : Operand
   next = stored w64 (a ⊞ literal (pos 1)) tt
 
   abbrev c₁ : Operand
-  c₁ = known w64 (linear l.before.args.t1 l.before.pre.1) tt
+  c₁ = known w64 (linear l.before.args.t1 l.before.requires.1) tt
 
   abbrev c₂ : Operand
-  c₂ = known w64 (quadratic l.before.args.t1 l.before.pre.1) tt
+  c₂ = known w64 (quadratic l.before.args.t1 l.before.requires.1) tt
 
   abbrev c₃ : Operand
-  c₃ = known w64 (leading l.before.args.t1 l.before.pre.1) tt
+  c₃ = known w64 (leading l.before.args.t1 l.before.requires.1) tt
 
   -- c₁ + c₂ (a + next) + c₃ (3 a next + 1)
   abbrev twice : Operand
@@ -56,13 +56,13 @@ module _ (l : tie.After-length) where
   second = stored w64 (literal (pos 2) ⊠ c₂) tt ⊞ stored w64 (stored w64 third tt ⊠ next) tt
 
 -- the state after the length, from further on
-abbrev early : tie.After-t13 → tie.After-length
+abbrev early : tie.After-result-2-1 → tie.After-length-a
 early c = c.before.before.before
 
-abbrev later : tie.After-t19 → tie.After-length
+abbrev later : tie.After-result-3-1 → tie.After-length-a
 later c = early c.before
 
-abbrev latest : tie.After-t31 → tie.After-length
+abbrev latest : tie.After-result-5-1 → tie.After-length-a
 latest c = later c.before.before
 
 returns : tie.Need-returns
@@ -73,8 +73,8 @@ returns c = let v = c.before.before.before.before.before.before in let l = v.bef
     (gives w64 (second l) tt ∙ second_is row o) i ∷
     (gives w64 (third l) tt ∙ third_is row o) i ∷ []
 
-pub differences-spec : {M : Type 1} → statement M
-differences-spec =
+pub differences_spec : {M : Type 1} → statement M
+differences_spec =
     tie.close
     (tie.spec
     (λ c κs. search rules)

@@ -12,26 +12,26 @@ module _ (s : tie.Start) where
   z₀ = known w64 s.requires.value tt
 
   abbrev z₁ : Operand
-  z₁ = known w64 s.pre.first tt
+  z₁ = known w64 s.requires.first tt
 
   abbrev z₂ : Operand
-  z₂ = known w64 s.pre.second tt
+  z₂ = known w64 s.requires.second tt
 
   abbrev z₃ : Operand
-  z₃ = known w64 s.pre.third tt
+  z₃ = known w64 s.requires.third tt
 
-abbrev second : tie.After-t15 → tie.Start
+abbrev second : tie.After-result-4-1 → tie.Start
 second c = c.before.before.before.before
 
-abbrev third : tie.After-t22 → tie.Start
+abbrev third : tie.After-result-6-1 → tie.Start
 third c = second c.before.before
 
 returns : tie.Need-returns
 unfolding stepped
 returns c = let s = third c.before in λ i. gives w64 (z₀ s ⊞ z₁ s) tt i ∷ gives w64 (z₁ s ⊞ z₂ s) tt i ∷ gives w64 (z₂ s ⊞ z₃ s) tt i ∷ (z₃ s).reads i ∷ []
 
-pub stepped-spec : {M : Type 1} → statement M
-stepped-spec =
+pub stepped_spec : {M : Type 1} → statement M
+stepped_spec =
     tie.close
     (tie.spec
     (λ c. search rules)

@@ -9,15 +9,15 @@ use Rattle.element_evaluation.proofs.Factors.{square_is, Quotient, quotient_of, 
 use Rattle.element_evaluation.proofs.bend_xy_of.Statement.{statement}
 use Rattle.element_evaluation.proofs.bend_xy_of.Tie as tie
 
-abbrev quotient : tie.After-square2 → Quotient
+abbrev quotient : tie.After-square-2 → Quotient
 quotient c = let u = c.before in let d = u.before in
-    quotient_of d.before.requires.1 d.by-rs.ensures (square_is u.square.ensures) (square_is c.square2.ensures)
+    quotient_of d.before.requires.1 d.by_rs.ensures (square_is u.square.ensures) (square_is c.square-2.ensures)
 
 returns : tie.Need-returns
-returns c = unchanged w64 c.curvature.type-inv ∙ curvature_is (quotient c.before) c.curvature.ensures (bend_xy_is _ _ _ _)
+returns c = unchanged w64 c.curvature.type_inv ∙ curvature_is (quotient c.before) c.curvature.ensures (bend_xy_is _ _ _ _)
 
-pub bend-xy-of-spec : {M : Type 1} → statement M
-bend-xy-of-spec =
+pub bend_xy_of_spec : {M : Type 1} → statement M
+bend_xy_of_spec =
     tie.close
     (tie.spec (λ c κs. search rules) (λ c κs. search rules) (λ c κs. search rules)
     (λ c κs. asked (quotient c) (by_rs_each c.before.before.before.requires.0)) returns)

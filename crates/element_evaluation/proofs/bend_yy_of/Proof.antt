@@ -11,13 +11,13 @@ use Rattle.element_evaluation.proofs.bend_yy_of.Tie as tie
 
 abbrev quotient : tie.After-cube → Quotient
 quotient c = let u = c.before in let d = u.before in
-    quotient_of d.before.requires.1 d.by-ss.ensures (length_is u.length.ensures) (cube_is c.cube.ensures)
+    quotient_of d.before.requires.1 d.by_ss.ensures (length_is u.length.ensures) (cube_is c.cube.ensures)
 
 returns : tie.Need-returns
-returns c = unchanged w64 c.curvature.type-inv ∙ curvature_is (quotient c.before) c.curvature.ensures (bend_yy_is _ _ _ _)
+returns c = unchanged w64 c.curvature.type_inv ∙ curvature_is (quotient c.before) c.curvature.ensures (bend_yy_is _ _ _ _)
 
-pub bend-yy-of-spec : {M : Type 1} → statement M
-bend-yy-of-spec =
+pub bend_yy_of_spec : {M : Type 1} → statement M
+bend_yy_of_spec =
     tie.close
     (tie.spec (λ c κs. search rules) (λ c κs. search rules) (λ c κs. search rules)
     (λ c κs. asked (quotient c) (by_ss_each c.before.before.before.requires.0)) returns)

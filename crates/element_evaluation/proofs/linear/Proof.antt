@@ -16,9 +16,9 @@ two s = stored w64 (term s 0) tt ⊞ stored w64 (term s 1) tt
 abbrev all : tie.Start → Operand
 all s = stored w64 (two s) tt ⊞ stored w64 (term s 2) tt
 
-pub linear-spec : {M : Type 1} → statement M
+pub linear_spec : {M : Type 1} → statement M
 unfolding linear_at
-linear-spec =
+linear_spec =
     tie.close
     (tie.spec
     (λ c. search rules)

@@ -37,12 +37,12 @@ ratio s = record {
 size_is : (x y : ℤ) → nat_abs (pos 2 *ℤ (x *ℤ y)) ≡ 2 * (nat_abs x * nat_abs y)
 size_is x y = nat_abs-* (pos 2) (x *ℤ y) ∙ ap (λ m. 2 * m) (nat_abs-* x y)
 
-pub over-spec : {M : Type 1} → statement M
-over-spec =
+pub over_spec : {M : Type 1} → statement M
+over_spec =
     tie.close
     (tie.spec
     (λ c. asks w64 (product c) tt)
     (λ c. asks w64 (d c) tt)
     (λ c κs. rw (gives w64 (d c) tt, (n c).reads) (ratio c))
     (λ c. let s = c.before in
-    unchanged w64 c.round.type-inv ∙ c.round.ensures ∙ (λ i. round ((n s).reads i) (nat_abs (gives w64 (d s) tt i))) ∙ ap (round s.args.n) (size_is s.args.x s.args.y)))
+    unchanged w64 c.round.type_inv ∙ c.round.ensures ∙ (λ i. round ((n s).reads i) (nat_abs (gives w64 (d s) tt i))) ∙ ap (round s.args.n) (size_is s.args.x s.args.y)))

@@ -33,9 +33,9 @@ square s = stored w64 (z s 1 ⊠ stored w64 (inX s) tt) tt ⊞ stored w64 (inY s
 abbrev all : tie.Start → Operand
 all s = stored w64 (z s 0 ⊠ stored w64 (linear s) tt) tt ⊞ stored w64 (square s) tt
 
-pub quadratic-spec : {M : Type 1} → statement M
+pub quadratic_spec : {M : Type 1} → statement M
 unfolding linear_at quadratic_at
-quadratic-spec =
+quadratic_spec =
     tie.close
     (tie.spec
     (λ c. search rules)

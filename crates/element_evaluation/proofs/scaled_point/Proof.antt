@@ -12,25 +12,25 @@ use Rattle.element_evaluation.specs.LowDegree.{scaled_of}
 use Rattle.element_evaluation.proofs.scaled_point.Statement.{statement}
 use Rattle.element_evaluation.proofs.scaled_point.Tie as tie
 
-abbrev w : tie.After-length2 → Operand
-w c = returned w64 c.before.length.ensures (length_within c.before.before.requires.width.most) tt
+abbrev w : tie.After-length-h → Operand
+w c = returned w64 c.before.length-w.ensures (length_within c.before.before.requires.width.most) tt
 
-abbrev h : tie.After-length2 → Operand
-h c = returned w64 c.length2.ensures (length_within c.before.before.requires.height.most) tt
+abbrev h : tie.After-length-h → Operand
+h c = returned w64 c.length-h.ensures (length_within c.before.before.requires.height.most) tt
 
-abbrev x : tie.After-length3 → Operand
-x c = let i = c.before.before.before.requires in returned w64 c.length3.ensures (length_within (le_trans i.across i.width.most)) tt ⊠ h c.before
+abbrev x : tie.After-length → Operand
+x c = let i = c.before.before.before.requires in returned w64 c.length.ensures (length_within (le_trans i.across i.width.most)) tt ⊠ h c.before
 
-abbrev y : tie.After-length4 → Operand
-y c = let i = c.before.before.before.before.requires in returned w64 c.length4.ensures (length_within (le_trans i.down i.height.most)) tt ⊠ w c.before.before
+abbrev y : tie.After-length-2 → Operand
+y c = let i = c.before.before.before.before.requires in returned w64 c.length-2.ensures (length_within (le_trans i.down i.height.most)) tt ⊠ w c.before.before
 
 -- over the sides as they are
 sides : (s : tie.Start) → let p = s.args.p in pos (p.width * p.height) ∷ pos (p.a * p.height) ∷ pos (p.b * p.width) ∷ [] ≡ scaled_of (pixel_cell p) p.a p.b
 unfolding cell scaled_of
 sides s = let p = s.args.p in sym (λ i. let w = side_is s.requires.width i in let h = side_is s.requires.height i in pos (w * h) ∷ pos (p.a * h) ∷ pos (p.b * w) ∷ [])
 
-pub scaled-point-spec : {M : Type 1} → statement M
-scaled-point-spec =
+pub scaled_point_spec : {M : Type 1} → statement M
+scaled_point_spec =
     tie.close
     (tie.spec
     (λ c κs. c.requires.width.most)

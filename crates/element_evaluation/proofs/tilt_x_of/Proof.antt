@@ -11,13 +11,13 @@ use Rattle.element_evaluation.proofs.tilt_x_of.Tie as tie
 
 abbrev quotient : tie.After-square → Quotient
 quotient c = let u = c.before in let d = u.before in
-    quotient_of d.before.requires.1 d.by-r.ensures (cube_is u.cube.ensures) (square_is c.square.ensures)
+    quotient_of d.before.requires.1 d.by_r.ensures (cube_is u.cube.ensures) (square_is c.square.ensures)
 
 returns : tie.Need-returns
-returns c = unchanged w64 c.slope.type-inv ∙ slope_is (quotient c.before) c.slope.ensures (tilt_x_is _ _ _ _)
+returns c = unchanged w64 c.slope.type_inv ∙ slope_is (quotient c.before) c.slope.ensures (tilt_x_is _ _ _ _)
 
-pub tilt-x-of-spec : {M : Type 1} → statement M
-tilt-x-of-spec =
+pub tilt_x_of_spec : {M : Type 1} → statement M
+tilt_x_of_spec =
     tie.close
     (tie.spec (λ c κs. search rules) (λ c κs. search rules) (λ c κs. search rules)
     (λ c κs. asked (quotient c) (by_r_each c.before.before.before.requires.0)) returns)

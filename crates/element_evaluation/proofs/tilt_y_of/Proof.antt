@@ -11,13 +11,13 @@ use Rattle.element_evaluation.proofs.tilt_y_of.Tie as tie
 
 abbrev quotient : tie.After-cube → Quotient
 quotient c = let u = c.before in let d = u.before in
-    quotient_of d.before.requires.1 d.by-s.ensures (square_is u.square.ensures) (cube_is c.cube.ensures)
+    quotient_of d.before.requires.1 d.by_s.ensures (square_is u.square.ensures) (cube_is c.cube.ensures)
 
 returns : tie.Need-returns
-returns c = unchanged w64 c.slope.type-inv ∙ slope_is (quotient c.before) c.slope.ensures (tilt_y_is _ _ _ _)
+returns c = unchanged w64 c.slope.type_inv ∙ slope_is (quotient c.before) c.slope.ensures (tilt_y_is _ _ _ _)
 
-pub tilt-y-of-spec : {M : Type 1} → statement M
-tilt-y-of-spec =
+pub tilt_y_of_spec : {M : Type 1} → statement M
+tilt_y_of_spec =
     tie.close
     (tie.spec (λ c κs. search rules) (λ c κs. search rules) (λ c κs. search rules)
     (λ c κs. asked (quotient c) (by_s_each c.before.before.before.requires.0)) returns)

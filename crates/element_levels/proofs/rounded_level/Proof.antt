@@ -11,8 +11,8 @@ use Rattle.element_levels.proofs.rounded_level.Tie as tie
 abbrev n : tie.Start → Operand
 n s = any w64 s.ranges.n
 
-abbrev level : tie.After-round-small → Operand
-level c = let s = c.before in returned w64 (c.round-small.ensures ∙ ap (λ z. round z (nat_abs s.args.d.value)) (n s).reads) s.requires.small tt
+abbrev level : tie.After-round_small → Operand
+level c = let s = c.before in returned w64 (c.round_small.ensures ∙ ap (λ z. round z (nat_abs s.args.d.value)) (n s).reads) s.requires.small tt
 
-pub rounded-level-spec : {M : Type 1} → statement M
-rounded-level-spec = tie.close (tie.spec (λ c κs. rw (n c).reads (rounded_in_reach c.requires.prepared c.requires.small)) (λ c. asks w32 (level c) tt) (λ c. gives w32 (level c) tt))
+pub rounded_level_spec : {M : Type 1} → statement M
+rounded_level_spec = tie.close (tie.spec (λ c κs. rw (n c).reads (rounded_in_reach c.requires.prepared c.requires.small)) (λ c. asks w32 (level c) tt) (λ c. gives w32 (level c) tt))

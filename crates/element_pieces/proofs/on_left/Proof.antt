@@ -8,14 +8,14 @@ use Rattle.element_corners.proofs.Turned.{exchanged_within}
 use Rattle.element_pieces.proofs.on_left.Statement.{statement}
 use Rattle.element_pieces.proofs.on_left.Tie as tie
 
-on-top-requires : tie.Need-on-top-requires
+on-top-requires : tie.Need-on_top-requires
 on-top-requires c κs = rw (held _ c.exchanged.ensures) (exchanged_within c.before.requires)
 
 returns : tie.Need-returns
 unfolding listed transposed halves on_left
 returns c = let t = c.before in
-    c.transposed.ensures ∙ (λ i. listed (transposed (halves (t.on-top.ensures i)))) ∙
+    c.transposed.ensures ∙ (λ i. listed (transposed (halves (t.on_top.ensures i)))) ∙
     (λ i. listed (transposed (on_top (held _ t.before.exchanged.ensures i))))
 
-pub on-left-spec : {M : Type 1} → statement M
-on-left-spec = tie.close (tie.spec (λ c κs. search rules) on-top-requires (λ c κs. search rules) returns)
+pub on_left_spec : {M : Type 1} → statement M
+on_left_spec = tie.close (tie.spec (λ c κs. search rules) on-top-requires (λ c κs. search rules) returns)

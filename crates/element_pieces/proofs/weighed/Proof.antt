@@ -14,13 +14,13 @@ use Rattle.element_pieces.proofs.Sums.{weight_within, number_within, sum_of, one
 use Rattle.element_pieces.proofs.weighed.Statement.{statement}
 use Rattle.element_pieces.proofs.weighed.Tie as tie
 
-abbrev invariant-loop : tie.invariant-loop
+abbrev invariant-loop : tie.invariant-loop-i
 invariant-loop table power n sum₀ i₀ sum i = (i ≤ 12) × (to_z w64 sum ≡ sum_of n table power i)
 
-abbrev decreases-loop : tie.decreases-loop
+abbrev decreases-loop : tie.decreases-loop-i
 decreases-loop table power n sum₀ i₀ sum i = 12 - i
 
-module _ (c : tie.In-loop invariant-loop decreases-loop) where
+module _ (c : tie.In-loop-i invariant-loop decreases-loop) where
   abbrev start : tie.Start invariant-loop decreases-loop
   start = c.before.before
 
@@ -34,47 +34,47 @@ module _ (c : tie.In-loop invariant-loop decreases-loop) where
   n = start.args.t3
 
   abbrev i : ℕ
-  i = c.before.loop.i
+  i = c.before.loop-i.i
 
   below : i < 12
   below = search rules
 
   -- the lent table's weights are the definition's
   weight_bound : get_or (get_or table i []) power (pos 0) within 6
-  weight_bound = subst⁻¹ (λ t. get_or (get_or t i []) power (pos 0) within 6) start.pre.0 (weight_within i power)
+  weight_bound = subst⁻¹ (λ t. get_or (get_or t i []) power (pos 0) within 6) start.requires.0 (weight_within i power)
 
   sum_bound : sum_of n table power i within (72 * largest)
-  sum_bound = subst⁻¹ (λ t. sum_of n t power i within (72 * largest)) start.pre.0 (sum_within n start.pre.2 power i c.before.loop.invariant.0)
+  sum_bound = subst⁻¹ (λ t. sum_of n t power i within (72 * largest)) start.requires.0 (sum_within n start.requires.2 power i c.before.loop-i.invariant.0)
 
   abbrev before : Operand
   before = record {
-    read = to_z w64 c.before.loop.sum;
+    read = to_z w64 c.before.loop-i.sum-1;
     number = sum_of n table power i;
     bound = 72 * largest;
-    reads = c.before.loop.invariant.1;
+    reads = c.before.loop-i.invariant.1;
     bounded = sum_bound;
   }
 
   abbrev product : Operand
-  product = known w64 weight_bound tt ⊠ known w64 (number_within n start.pre.2 i below) tt
+  product = known w64 weight_bound tt ⊠ known w64 (number_within n start.requires.2 i below) tt
 
   abbrev after : Operand
   after = before ⊞ stored w64 product tt
 
-loop-holds : tie.Need-loop-init invariant-loop decreases-loop
+loop-holds : tie.Need-loop-i-init invariant-loop decreases-loop
 unfolding sum_of
 loop-holds c = (search rules, refl)
 
-loop-again : tie.Need-loop-preserved invariant-loop decreases-loop
+loop-again : tie.Need-loop-i-preserved invariant-loop decreases-loop
 loop-again c = let l = c.before.before in (search rules, gives w64 (after l) tt ∙ one_more_lem (n l) (table l) (power l) (i l))
 
 returns : tie.Need-returns invariant-loop decreases-loop
-returns c p e = let s = c.before.before in let l = c.before.loop in
+returns c p e = let s = c.before.before in let l = c.before.loop-i in
     let ended : ◌≡◌ {A = ℕ} l.i 12 = search rules in
     l.invariant.1 ∙ (λ j. sum_of s.args.t3 (s.requires.0 j) (e j) (ended j)) ∙ all_twelve s.args.t3 p
 
-pub weighed-spec : {M : Type 1} → statement M
-weighed-spec =
+pub weighed_spec : {M : Type 1} → statement M
+weighed_spec =
     tie.close
     (tie.spec
     invariant-loop

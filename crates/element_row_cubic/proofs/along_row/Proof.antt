@@ -66,22 +66,22 @@ abbrev p₀ : tie.After-down → Operand
 p₀ c = let s = c.before.before.before.before.before.before in
     returned w64 c.before.before.before.before.before.cube.ensures (cube_within s.requires.1.most) tt ⊠ fallen s (r₀ s) (sizes s).0 c.down.ensures
 
-abbrev second : tie.After-down2 → tie.After-down
+abbrev second : tie.After-down-2 → tie.After-down
 second c = c.before.before.before.before.before
 
-abbrev p₁ : tie.After-down2 → Operand
+abbrev p₁ : tie.After-down-2 → Operand
 p₁ c = let s = (second c).before.before.before.before.before.before in
-    returned w64 c.before.before.before.before.square.ensures (square_within s.pre.1.most) tt ⊠ fallen s (r₁ s) (sizes s).1 c.down2.ensures
+    returned w64 c.before.before.before.before.square.ensures (square_within s.requires.1.most) tt ⊠ fallen s (r₁ s) (sizes s).1 c.down-2.ensures
 
-abbrev third : tie.After-down3 → tie.After-down2
+abbrev third : tie.After-down-3 → tie.After-down-2
 third c = c.before.before.before.before
 
-abbrev p₂ : tie.After-down3 → Operand
+abbrev p₂ : tie.After-down-3 → Operand
 p₂ c = let s = (second (third c)).before.before.before.before.before.before in
-    returned w64 c.before.before.before.length.ensures (length_within s.pre.1.most) tt ⊠ fallen s (r₂ s) (sizes s).2 c.down3.ensures
+    returned w64 c.before.before.before.length.ensures (length_within s.requires.1.most) tt ⊠ fallen s (r₂ s) (sizes s).2 c.down-3.ensures
 
-abbrev p₃ : tie.After-down4 → Operand
-p₃ c = let s = (second (third c.before.before)).before.before.before.before.before.before in fallen s (r₃ s) (sizes s).3 c.down4.ensures
+abbrev p₃ : tie.After-down-4 → Operand
+p₃ c = let s = (second (third c.before.before)).before.before.before.before.before.before in fallen s (r₃ s) (sizes s).3 c.down-4.ensures
 
 -- the row over the sides as they are
 row : (s : tie.Start) → let w = s.args.width in let h = s.args.height in let b = s.args.b in
@@ -95,8 +95,8 @@ returns : tie.Need-returns
 returns c = let c₃ = c.before.before in let c₂ = third c₃ in let c₁ = second c₂ in
     (λ i. gives w64 (p₀ c₁) tt i ∷ gives w64 (p₁ c₂) tt i ∷ gives w64 (p₂ c₃) tt i ∷ (p₃ c).reads i ∷ []) ∙ row c₁.before.before.before.before.before.before
 
-pub along-row-spec : {M : Type 1} → statement M
-along-row-spec =
+pub along_row_spec : {M : Type 1} → statement M
+along_row_spec =
     tie.close
     (tie.spec
     (λ c κs. search rules)

@@ -13,62 +13,62 @@ use Rattle.element_row_cubic.specs.Row.{down}
 use Rattle.element_row_cubic.proofs.down.Statement.{statement}
 use Rattle.element_row_cubic.proofs.down.Tie as tie
 
-abbrev k : tie.After-length2 → ℕ → Operand
+abbrev k : tie.After-length-v → ℕ → Operand
 k l i = let s = l.before.before in known w64 (is_within (get_or s.args.t1 i (pos 0)) (le_trans (in_size s.args.t1 i) s.requires.0)) tt
 
-abbrev h : tie.After-length2 → Operand
-h l = returned w64 l.before.length.ensures (length_within l.before.before.requires.1.most) tt
+abbrev h : tie.After-length-v → Operand
+h l = returned w64 l.before.length-h.ensures (length_within l.before.before.requires.1.most) tt
 
-abbrev v : tie.After-length2 → Operand
-v l = let s = l.before.before in returned w64 l.length2.ensures (length_within (le_trans s.requires.2 s.requires.1.most)) tt
+abbrev v : tie.After-length-v → Operand
+v l = let s = l.before.before in returned w64 l.length-v.ensures (length_within (le_trans s.requires.2 s.requires.1.most)) tt
 
 -- h², v h, v² and the four powers of degree 3
-abbrev hh : tie.After-length2 → Operand
+abbrev hh : tie.After-length-v → Operand
 hh l = h l ⊠ h l
 
-abbrev vh : tie.After-length2 → Operand
+abbrev vh : tie.After-length-v → Operand
 vh l = v l ⊠ h l
 
-abbrev vv : tie.After-length2 → Operand
+abbrev vv : tie.After-length-v → Operand
 vv l = v l ⊠ v l
 
-abbrev hhh : tie.After-length2 → Operand
+abbrev hhh : tie.After-length-v → Operand
 hhh l = stored w64 (hh l) tt ⊠ h l
 
-abbrev vhh : tie.After-length2 → Operand
+abbrev vhh : tie.After-length-v → Operand
 vhh l = stored w64 (vh l) tt ⊠ h l
 
-abbrev vvh : tie.After-length2 → Operand
+abbrev vvh : tie.After-length-v → Operand
 vvh l = stored w64 (vv l) tt ⊠ h l
 
-abbrev vvv : tie.After-length2 → Operand
+abbrev vvv : tie.After-length-v → Operand
 vvv l = stored w64 (vv l) tt ⊠ v l
 
 -- the four terms, and their sums
-abbrev t0 : tie.After-length2 → Operand
+abbrev t0 : tie.After-length-v → Operand
 t0 l = k l 0 ⊠ stored w64 (hhh l) tt
 
-abbrev t1 : tie.After-length2 → Operand
+abbrev t1 : tie.After-length-v → Operand
 t1 l = k l 1 ⊠ stored w64 (vhh l) tt
 
-abbrev t2 : tie.After-length2 → Operand
+abbrev t2 : tie.After-length-v → Operand
 t2 l = k l 2 ⊠ stored w64 (vvh l) tt
 
-abbrev t3 : tie.After-length2 → Operand
+abbrev t3 : tie.After-length-v → Operand
 t3 l = k l 3 ⊠ stored w64 (vvv l) tt
 
-abbrev two : tie.After-length2 → Operand
+abbrev two : tie.After-length-v → Operand
 two l = stored w64 (t0 l) tt ⊞ stored w64 (t1 l) tt
 
-abbrev three : tie.After-length2 → Operand
+abbrev three : tie.After-length-v → Operand
 three l = stored w64 (two l) tt ⊞ stored w64 (t2 l) tt
 
-abbrev all : tie.After-length2 → Operand
+abbrev all : tie.After-length-v → Operand
 all l = stored w64 (three l) tt ⊞ stored w64 (t3 l) tt
 
-pub down-spec : {M : Type 1} → statement M
+pub down_spec : {M : Type 1} → statement M
 unfolding down
-down-spec =
+down_spec =
     tie.close
     (tie.spec
     (λ c κs. search rules)

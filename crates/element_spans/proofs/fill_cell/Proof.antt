@@ -30,37 +30,37 @@ use Rattle.element_spans.proofs.fill_cell.Tie as tie
 abbrev d : tie.After-denominator → Operand
 d c = let i = c.before.requires.1.inside in returned w64 c.denominator.ensures (denominates i.width i.height).small tt
 
-new-requires : tie.Need-new-requires
+new-requires : tie.Need-new-d-requires
 new-requires c κs = let i = c.before.requires.1.inside in rw (d c).reads (denominates i.width i.height)
 
 -- from where the spans' sizes are known
-module _ (c : tie.After-before3) where
+module _ (c : tie.After-before-both) where
   abbrev start : tie.Start
   start = c.before.before.before.before.before
 
   abbrev lefts : ℕ
-  lefts = c.before.before2.result
+  lefts = c.before.before-left.result
 
   abbrev both : ℕ
-  both = c.before3.result
+  both = c.before-both.result
 
-  divisor : c.before.before.before.new.result ≡ constants (denominator_of start.args.first)
-  divisor = c.before.before.before.new.ensures ∙ ap constants (d c.before.before.before.before).reads
+  divisor : c.before.before.before.new-d.result ≡ constants (denominator_of start.args.first)
+  divisor = c.before.before.before.new-d.ensures ∙ ap constants (d c.before.before.before.before).reads
 
   parted : Parted start.args.first start.args.count lefts both
   unfolding ends_of
-  parted = let a = start.args in let e = c.before.before.span-ends.ensures in record {
-    lefts = c.before.before2.ensures ∙ ap (λ z. min a.count (z.left - a.first.a)) e;
-    both = c.before3.ensures ∙ ap (λ z. min a.count (z.middle - a.first.a)) e;
+  parted = let a = start.args in let e = c.before.before.span_ends-ends.ensures in record {
+    lefts = c.before.before-left.ensures ∙ ap (λ z. min a.count (z.left - a.first.a)) e;
+    both = c.before-both.ensures ∙ ap (λ z. min a.count (z.middle - a.first.a)) e;
   }
 
   in_order_lem : (lefts ≤ both) × (both ≤ start.args.count)
-  in_order_lem = ordered start.pre.1 parted
+  in_order_lem = ordered start.requires.1 parted
 
 -- ---- the three spans
 
 module _ (c : tie.After-cubic) where
-  abbrev first : tie.After-before3
+  abbrev first : tie.After-before-both
   first = c.before.before
 
   span₁ : let a = (start first).args in Span (corners a.n) a.first a.count left c.cubic.result 0 (lefts first)
@@ -68,31 +68,31 @@ module _ (c : tie.After-cubic) where
   span₁ = record {
     along = c.cubic.ensures;
     fits = omega (arith, in_order_lem first);
-    pieces = λ k l. left_piece (start first).pre.1 (parted first) (0 + k) (omega arith);
+    pieces = λ k l. left_piece (start first).requires.1 (parted first) (0 + k) (omega arith);
   }
 
-module _ (c : tie.After-middle-cubic) where
-  abbrev second : tie.After-before3
+module _ (c : tie.After-middle_cubic) where
+  abbrev second : tie.After-before-both
   second = c.before.before.before.before.before.before
 
   span₂ : let a = (start second).args in
-      Span (corners a.n) a.first a.count (middle_of a.first) c.middle-cubic.result (lefts second) (both second - lefts second)
+      Span (corners a.n) a.first a.count (middle_of a.first) c.middle_cubic.result (lefts second) (both second - lefts second)
   span₂ = record {
-    along = c.middle-cubic.ensures;
+    along = c.middle_cubic.ensures;
     fits = omega (arith, in_order_lem second);
-    pieces = λ k l. middle_piece (start second).pre.1 (parted second) (lefts second + k) (omega arith) (omega arith);
+    pieces = λ k l. middle_piece (start second).requires.1 (parted second) (lefts second + k) (omega arith) (omega arith);
   }
 
-module _ (c : tie.After-cubic2) where
-  abbrev third : tie.After-before3
+module _ (c : tie.After-cubic-2) where
+  abbrev third : tie.After-before-both
   third = c.before.before.before.before.before.before.before.before.before.before
 
-  span₃ : let a = (start third).args in Span (corners a.n) a.first a.count right c.cubic2.result (both third) (a.count - both third)
+  span₃ : let a = (start third).args in Span (corners a.n) a.first a.count right c.cubic-2.result (both third) (a.count - both third)
   unfolding piece_of
   span₃ = record {
-    along = c.cubic2.ensures;
+    along = c.cubic-2.ensures;
     fits = omega (arith, in_order_lem third);
-    pieces = λ k l. right_piece (start third).pre.1 (parted third) (both third + k) (omega arith) (omega arith);
+    pieces = λ k l. right_piece (start third).requires.1 (parted third) (both third + k) (omega arith) (omega arith);
   }
 
 -- ---- the row after each
@@ -101,62 +101,62 @@ module _ (c : tie.After-cubic2) where
 abbrev levels : List (List ℤ) → Pixel → ℕ → ℤ
 levels n p k = cell_level (corners n) (to_right p k)
 
-module _ (c : tie.After-fill-levels) where
-  row₁ : let a = (start (first c.before)).args in c.fill-levels.new.0 ≡ steps (starting_at a.at (levels a.n a.first)) a.at (lefts (first c.before)) a.row.now
-  row₁ = let l = c.before in let s = start (first l) in let a = s.args in let v = (first l).before.before.before.new.result.value in
-      c.fill-levels.ensures ∙ steps_same _ _ a.at (lefts (first l)) _ (λ k h.
+module _ (c : tie.After-fill_levels) where
+  row₁ : let a = (start (first c.before)).args in c.fill_levels.new-d.0 ≡ steps (starting_at a.at (levels a.n a.first)) a.at (lefts (first c.before)) a.row-1.now
+  row₁ = let l = c.before in let s = start (first l) in let a = s.args in let v = (first l).before.before.before.new-d.result.value in
+      c.fill_levels.ensures ∙ steps_same _ _ a.at (lefts (first l)) _ (λ k h.
       starting_at_lem a.at _ k
       ∙ ap (λ o. round (at_offset l.cubic.result (o + k)) (nat_abs v)) (sym (add-zero a.first.a))
-      ∙ levels_are s.pre.0 s.pre.1 (divisor (first l)) (span₁ l) k h
+      ∙ levels_are s.requires.0 s.requires.1 (divisor (first l)) (span₁ l) k h
       ∙ ap (levels a.n a.first) (zero-add k)
       ∙ sym (starting_at_lem a.at (levels a.n a.first) k))
 
-module _ (c : tie.After-fill-levels2) where
+module _ (c : tie.After-fill_levels-2) where
   row₂ : let a = (start (second c.before)).args in
-      c.fill-levels2.new.0 ≡ steps (starting_at a.at (levels a.n a.first)) a.at (lefts (second c.before) + (both (second c.before) - lefts (second c.before))) a.row.now
+      c.fill_levels-2.new-d.0 ≡ steps (starting_at a.at (levels a.n a.first)) a.at (lefts (second c.before) + (both (second c.before) - lefts (second c.before))) a.row-1.now
   row₂ = let l = c.before in let s = start (second l) in let a = s.args in
-      starting_more (levels a.n a.first) _ a.at (lefts (second l)) (both (second l) - lefts (second l)) a.row.now
-      (row₁ l.before.before.before) c.fill-levels2.ensures (levels_are s.pre.0 s.pre.1 (divisor (second l)) (span₂ l))
+      starting_more (levels a.n a.first) _ a.at (lefts (second l)) (both (second l) - lefts (second l)) a.row-1.now
+      (row₁ l.before.before.before) c.fill_levels-2.ensures (levels_are s.requires.0 s.requires.1 (divisor (second l)) (span₂ l))
 
-fill-levels-requires : tie.Need-fill-levels-requires
+fill-levels-requires : tie.Need-fill_levels-requires
 fill-levels-requires c κs = let s = start (first c) in (
-  subst (λ o. FitsAlong c.cubic.result o (lefts (first c)) (first c).before.before.before.new.result) (add-zero s.args.first.a)
-      (levels_fit s.pre.0 s.pre.1 (divisor (first c)) (span₁ c)),
-  omega (arith, s.pre.2, in_order_lem (first c)),
+  subst (λ o. FitsAlong c.cubic.result o (lefts (first c)) (first c).before.before.before.new-d.result) (add-zero s.args.first.a)
+      (levels_fit s.requires.0 s.requires.1 (divisor (first c)) (span₁ c)),
+  omega (arith, s.requires.2, in_order_lem (first c)),
 )
 
-middle-cubic-requires : tie.Need-middle-cubic-requires
+middle-cubic-requires : tie.Need-middle_cubic-requires
 unfolding ends_of
 middle-cubic-requires c κs = let b = c.before.before.before.before.before in
-    ((start b).requires.0, (start b).requires.1.inside, ap (λ z. z.upper) b.before.before.span-ends.ensures)
+    ((start b).requires.0, (start b).requires.1.inside, ap (λ z. z.upper) b.before.before.span_ends-ends.ensures)
 
-sub-fill-levels : tie.Need-overflow-sub-fill-levels
+sub-fill-levels : tie.Need-overflow_sub-both
 sub-fill-levels c = (in_order_lem c.before.before.before.before.before).0
 
-fill-levels-requires-2 : tie.Need-fill-levels-requires-2
+fill-levels-requires-2 : tie.Need-fill_levels-requires-2
 fill-levels-requires-2 c κs = let s = start (second c) in (
-  levels_fit s.pre.0 s.pre.1 (divisor (second c)) (span₂ c),
-  omega (arith, s.pre.2, in_order_lem (second c), ap length (row₁ c.before.before.before) ∙ steps_length _ _ _ _),
+  levels_fit s.requires.0 s.requires.1 (divisor (second c)) (span₂ c),
+  omega (arith, s.requires.2, in_order_lem (second c), ap length (row₁ c.before.before.before) ∙ steps_length _ _ _ _),
 )
 
-add-fill-levels-4 : tie.Need-overflow-add-fill-levels-4
-add-fill-levels-4 c = let s = start (third c) in record { fits = omega (arith, s.pre.1.fits, s.pre.1.inside.width.most, in_order_lem (third c)) }
+add-fill-levels-4 : tie.Need-overflow_add-a-2
+add-fill-levels-4 c = let s = start (third c) in record { fits = omega (arith, s.requires.1.fits, s.requires.1.inside.width.most, in_order_lem (third c)) }
 
-fill-levels-requires-3 : tie.Need-fill-levels-requires-3
+fill-levels-requires-3 : tie.Need-fill_levels-requires-3
 fill-levels-requires-3 c κs = let s = start (third c) in (
-  levels_fit s.pre.0 s.pre.1 (divisor (third c)) (span₃ c),
-  omega (arith, s.pre.2, in_order_lem (third c), ap length (row₂ c.before.before.before) ∙ steps_length _ _ _ _),
+  levels_fit s.requires.0 s.requires.1 (divisor (third c)) (span₃ c),
+  omega (arith, s.requires.2, in_order_lem (third c), ap length (row₂ c.before.before.before) ∙ steps_length _ _ _ _),
 )
 
 returns : tie.Need-returns
 returns c = let l = c.before.before in let b = third l in let s = start b in let a = s.args in let f = levels a.n a.first in
-    starting_more f _ a.at (both b) (a.count - both b) a.row.now
-    (row₂ l.before.before.before ∙ ap (λ n. steps (starting_at a.at f) a.at n a.row.now) (omega (arith, in_order_lem b)))
-    c.before.fill-levels3.ensures (levels_are s.pre.0 s.pre.1 (divisor b) (span₃ l))
-    ∙ ap (λ n. steps (starting_at a.at f) a.at n a.row.now) (omega (arith, in_order_lem b))
+    starting_more f _ a.at (both b) (a.count - both b) a.row-1.now
+    (row₂ l.before.before.before ∙ ap (λ n. steps (starting_at a.at f) a.at n a.row-1.now) (omega (arith, in_order_lem b)))
+    c.before.fill_levels-3.ensures (levels_are s.requires.0 s.requires.1 (divisor b) (span₃ l))
+    ∙ ap (λ n. steps (starting_at a.at f) a.at n a.row-1.now) (omega (arith, in_order_lem b))
 
-pub fill-cell-spec : {M : Type 1} → statement M
-fill-cell-spec =
+pub fill_cell_spec : {M : Type 1} → statement M
+fill_cell_spec =
     tie.close
     (tie.spec
     (λ c κs. search rules)

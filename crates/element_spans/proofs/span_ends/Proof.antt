@@ -14,13 +14,13 @@ use Rattle.element_spans.proofs.span_ends.Tie as tie
 products : (s : tie.Start) → let p = s.args.p in (p.b * p.width ≤ p.width * p.height) × (p.width * p.height ≤ 4096)
 products s = (height_fits s.args.p s.requires, mul-le-mul s.requires.width.most s.requires.height.most)
 
-mul-y : tie.Need-overflow-mul-y
+mul-y : tie.Need-overflow_mul-y
 mul-y c = record { fits = omega (arith, products c.before) }
 
-ceiling-requires : tie.Need-ceiling-requires
+ceiling-requires : tie.Need-ceiling-up-requires
 ceiling-requires c κs = let s = c.before.before in (s.requires.height.least, omega (arith, products s, s.requires.height.most), refl)
 
-abbrev start : tie.After-ceiling → tie.Start
+abbrev start : tie.After-ceiling-up → tie.Start
 start c = c.before.before.before
 
 -- neither quotient exceeds the width
@@ -28,33 +28,33 @@ fits : (s : tie.Start) → let p = s.args.p in (p.b * p.width / p.height ≤ p.w
 fits s = let p = s.args.p in let y = p.b * p.width in let d = s.requires.height.least in
     (floor_most y d p.width (products s).0, ceiling_most y d p.width (products s).0)
 
-sub-t7 : tie.Need-overflow-sub-t7
-sub-t7 c = let u = c.before.before.before.before in rw u.ceiling.ensures (fits (start u)).1
+sub-t7 : tie.Need-overflow_sub-result
+sub-t7 c = let u = c.before.before.before.before in rw u.ceiling-up.ensures (fits (start u)).1
 
-sub-t5 : tie.Need-overflow-sub-t5
+sub-t5 : tie.Need-overflow_sub-result-2
 sub-t5 c = (fits (start c.before.before.before.before)).0
 
-returns : tie.Need-returns
+returns : tie.Need-returns-then-p
 unfolding ends_of
-returns c = let u = c.before.before.before.before in let s = start u in let p = s.args.p in let h = c.before.if1.true in
-    let e = upper_ends p s.pre h in λ t.
+returns c = let u = c.before.before.before.before in let s = start u in let p = s.args.p in let h = c.before.if-p.true in
+    let e = upper_ends p s.requires h in λ t.
     record {
-      left = (u.ceiling.ensures ∙ e.0) t;
-      middle = (ap (λ n. p.width - n + 1) u.ceiling.ensures ∙ e.1 ∙ ap (λ k. end_of k p) (sym (upper_middle p (upper_is p h)))) t;
+      left = (u.ceiling-up.ensures ∙ e.0) t;
+      middle = (ap (λ n. p.width - n + 1) u.ceiling-up.ensures ∙ e.1 ∙ ap (λ k. end_of k p) (sym (upper_middle p (upper_is p h)))) t;
       upper = sym (upper_is p h) t;
     }
 
-returns-2 : tie.Need-returns-2
+returns-2 : tie.Need-returns
 unfolding ends_of
-returns-2 c = let u = c.before.before.before.before in let s = start u in let p = s.args.p in let h = c.before.if1.false in
-    let e = lower_ends p s.pre h in λ t.
+returns-2 c = let u = c.before.before.before.before in let s = start u in let p = s.args.p in let h = c.before.if-p.false in
+    let e = lower_ends p s.requires h in λ t.
     record {
       left = e.0 t;
-      middle = (u.ceiling.ensures ∙ e.1 ∙ ap (λ k. end_of k p) (sym (lower_middle p (lower_is p h)))) t;
+      middle = (u.ceiling-up.ensures ∙ e.1 ∙ ap (λ k. end_of k p) (sym (lower_middle p (lower_is p h)))) t;
       upper = sym (lower_is p h) t;
     }
 
-pub span-ends-spec : {M : Type 1} → statement M
-span-ends-spec =
+pub span_ends_spec : {M : Type 1} → statement M
+span_ends_spec =
     tie.close
     (tie.spec mul-y (λ c. search rules) ceiling-requires (λ c. search rules) sub-t7 (λ c. search rules) returns sub-t5 returns-2)

@@ -49,7 +49,7 @@ abbrev of-s² : tie.Start → Operand
 of-s² s = k s 5 ⊞ stored w64 (thrice s) tt
 
 -- the entry, from where all ten have been read
-abbrev entry : tie.After-sss → tie.Start
+abbrev entry : tie.After-sss-1 → tie.Start
 entry c = c.before.before.before.before.before.before.before.before.before.before
 
 returns : tie.Need-returns
@@ -59,9 +59,9 @@ returns c i = let s = entry c in
     gives w64 (opposite (stored w64 (of-rs s) tt)) tt i ∷ gives w64 (of-s² s) tt i ∷
     (k s 6).reads i ∷ gives w64 (opposite (k s 7)) tt i ∷ (k s 8).reads i ∷ gives w64 (opposite (k s 9)) tt i ∷ []
 
-pub flipped-spec : {M : Type 1} → statement M
+pub flipped_spec : {M : Type 1} → statement M
 unfolding listed halves
-flipped-spec =
+flipped_spec =
     tie.close
     (tie.spec
     (λ c. lit< tt)

@@ -13,8 +13,8 @@ flipped-requires c κs = rw c.transposed.ensures (transposed_sized c.before.requ
 returns : tie.Need-returns
 unfolding listed transposed flipped mirrored halves
 returns c = let f = c.before in
-    c.transposed2.ensures ∙ (λ i. listed (transposed (halves (f.flipped.ensures i)))) ∙
+    c.transposed-2.ensures ∙ (λ i. listed (transposed (halves (f.flipped.ensures i)))) ∙
     (λ i. listed (transposed (flipped (halves (f.before.transposed.ensures i)))))
 
-pub mirrored-spec : {M : Type 1} → statement M
-mirrored-spec = tie.close (tie.spec (λ c κs. search rules) flipped-requires (λ c κs. search rules) returns)
+pub mirrored_spec : {M : Type 1} → statement M
+mirrored_spec = tie.close (tie.spec (λ c κs. search rules) flipped-requires (λ c κs. search rules) returns)

@@ -17,7 +17,7 @@ use Rattle.integers.proofs.below_38_bits.Tie as tie
 abbrev d : tie.Start → Operand
 d s = known w64 s.requires.small tt
 
-cast-result : tie.Need-overflow-cast-result
+cast-result : tie.Need-overflow_cast-result
 cast-result c = asks_unsigned w64 (d c) (<ℤ→≤ℤ c.requires.positive) tt
 
 -- above 0 a number is its absolute value
@@ -29,5 +29,5 @@ returns : tie.Need-returns
 returns c = let n = nat_abs c.args.d in let small : n < 2 ^ 38 = omega (arith, c.requires.small.bound) in
     ap (to_z w64) (ap (λ n. n % 2 ^ 38) (ap nat_abs (d c).reads) ∙ mod-eq_of_lt small) ∙ to_z_pos w64 n (omega arith) ∙ absolute c.args.d c.requires.positive
 
-pub below-38-bits-spec : {M : Type 1} → statement M
-below-38-bits-spec = tie.close (tie.spec cast-result (λ c. search rules) returns)
+pub below_38_bits_spec : {M : Type 1} → statement M
+below_38_bits_spec = tie.close (tie.spec cast-result (λ c. search rules) returns)

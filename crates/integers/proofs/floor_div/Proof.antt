@@ -45,26 +45,26 @@ quotient s = stored w64 (mirrored s) tt ⊘ d s
 abbrev result : tie.Start → Operand
 result s = literal (negsuc 0) ⊟ stored w64 (quotient s) tt
 
-sub-result : tie.Need-overflow-sub-result
+sub-result : tie.Need-overflow_sub-result
 sub-result c = asks w64 (mirrored c.before) tt
 
-div-result : tie.Need-nonzero-div-result
+div-result : tie.Need-nonzero_div-result
 div-result c = (bits_positive w64 c.before.requires.denominator.positive, asks w64 (quotient c.before) tt)
 
-sub-result-2 : tie.Need-overflow-sub-result-2
+sub-result-2 : tie.Need-overflow_sub-result-then-n-lt0
 sub-result-2 c = asks w64 (result c.before) tt
 
-div-result-2 : tie.Need-nonzero-div-result-2
+div-result-2 : tie.Need-nonzero_div-result-else-n-lt0
 div-result-2 c = (bits_positive w64 c.before.requires.denominator.positive, asks w64 (n c.before ⊘ d c.before) tt)
 
-returns : tie.Need-returns
+returns : tie.Need-returns-then-n-lt0
 returns c = let s = c.before in
-    gives w64 (result s) tt ∙ below _ _ (less (n s) (literal (pos 0)) c.if1.true) s.requires.denominator.positive
+    gives w64 (result s) tt ∙ below _ _ (less (n s) (literal (pos 0)) c.if-n-lt0.true) s.requires.denominator.positive
 
-returns-2 : tie.Need-returns-2
+returns-2 : tie.Need-returns-else-n-lt0
 returns-2 c = let s = c.before in
-    gives w64 (n s ⊘ d s) tt ∙ above _ _ (not_less (n s) (literal (pos 0)) c.if1.false) s.requires.denominator.positive
+    gives w64 (n s ⊘ d s) tt ∙ above _ _ (not_less (n s) (literal (pos 0)) c.if-n-lt0.false) s.requires.denominator.positive
 
-pub floor-div-spec : {M : Type 1} → statement M
-floor-div-spec =
+pub floor_div_spec : {M : Type 1} → statement M
+floor_div_spec =
     tie.close (tie.spec sub-result div-result sub-result-2 div-result-2 returns returns-2)

@@ -50,16 +50,16 @@ d s = known w64 s.requires.1.small tt
 abbrev rest : tie.Start → Operand
 rest s = known w64 (within_below s.requires.2 s.requires.3 s.requires.1.small) tt
 
-cast-if1 : tie.Need-overflow-cast-if1
+cast-if1 : tie.Need-overflow_cast-rest
 cast-if1 c = asks_unsigned w64 (rest c) c.requires.2 tt
 
-mul-if1 : tie.Need-overflow-mul-if1
+mul-if1 : tie.Need-overflow_mul-rest
 mul-if1 c = record { fits = omega (arith, (read_within (rest c)).bound) }
 
-cast-if1-2 : tie.Need-overflow-cast-if1-2
+cast-if1-2 : tie.Need-overflow_cast-d
 cast-if1-2 c = asks_unsigned w64 (d c) (<ℤ→≤ℤ c.requires.1.positive) tt
 
-add-result : tie.Need-overflow-add-result
+add-result : tie.Need-overflow_add-result
 add-result c = asks w64 (q c.before ⊞ literal (pos 1)) tt
 
 -- what the machine compares are the absolute values of 2 r and d, neither of them negative
@@ -77,13 +77,13 @@ from_half (negsuc r) d low h = absurd low.le
 absolute : (s : tie.Start) → (nat_abs (rest s).read ≡ nat_abs s.args.rest) × (nat_abs (d s).read ≡ nat_abs s.args.d)
 absolute s = (ap nat_abs (rest s).reads, ap nat_abs (d s).reads)
 
-returns : tie.Need-returns
-returns c = let s = c.before in let l = below_half _ _ s.requires.2 s.requires.1.positive (omega (arith, c.if1.true, absolute s)) in
+returns : tie.Need-returns-then-rest-d
+returns c = let s = c.before in let l = below_half _ _ s.requires.2 s.requires.1.positive (omega (arith, c.if-rest-d.true, absolute s)) in
     (q s).reads ∙ down _ _ _ s.requires.2 s.requires.3 l
 
-returns-2 : tie.Need-returns-2
-returns-2 c = let s = c.before in let l = from_half _ s.args.d s.requires.2 (omega (arith, c.if1.false, absolute s)) in
+returns-2 : tie.Need-returns-else-rest-d
+returns-2 c = let s = c.before in let l = from_half _ s.args.d s.requires.2 (omega (arith, c.if-rest-d.false, absolute s)) in
     gives w64 (q s ⊞ literal (pos 1)) tt ∙ up s.args.q _ _ s.requires.2 s.requires.3 l
 
-pub nearest-spec : {M : Type 1} → statement M
-nearest-spec = tie.close (tie.spec cast-if1 mul-if1 cast-if1-2 add-result returns returns-2)
+pub nearest_spec : {M : Type 1} → statement M
+nearest_spec = tie.close (tie.spec cast-if1 mul-if1 cast-if1-2 add-result returns returns-2)

@@ -16,24 +16,24 @@ abbrev d : tie.Start → Operand
 d s = known w64 s.requires.denominator.small tt
 
 -- the quotient, its multiple of d, and the rest
-abbrev q : tie.After-floor-div → Operand
+abbrev q : tie.After-floor_div-q → Operand
 q c = let s = c.before in
-    returned w64 (c.floor-div.ensures ∙ (λ i. floor_div ((n s).reads i) (nat_abs ((d s).reads i)))) (floor_within _ s.requires.numerator) tt
+    returned w64 (c.floor_div-q.ensures ∙ (λ i. floor_div ((n s).reads i) (nat_abs ((d s).reads i)))) (floor_within _ s.requires.numerator) tt
 
-abbrev multiple : tie.After-floor-div → Operand
+abbrev multiple : tie.After-floor_div-q → Operand
 multiple c = let s = c.before in rebound (q c ⊠ d s) (multiple_within s.requires.denominator.positive s.requires.numerator s.requires.denominator.small)
 
-abbrev rest : tie.After-floor-div → Operand
+abbrev rest : tie.After-floor_div-q → Operand
 rest c = let s = c.before in
     rebound (n s ⊟ stored w64 (multiple c) tt) (rest_within s.args.n s.requires.denominator.positive s.requires.denominator.small)
 
-floor-div-requires : tie.Need-floor-div-requires
+floor-div-requires : tie.Need-floor_div-q-requires
 floor-div-requires c κs = search rules
 
-mul-nearest : tie.Need-overflow-mul-nearest
+mul-nearest : tie.Need-overflow_mul-q
 mul-nearest c = asks w64 (multiple c) tt
 
-sub-nearest : tie.Need-overflow-sub-nearest
+sub-nearest : tie.Need-overflow_sub-n
 sub-nearest c = asks w64 (rest c) tt
 
 nearest-requires : tie.Need-nearest-requires
@@ -43,8 +43,8 @@ nearest-requires c κs = let s = c.before in
 
 returns : tie.Need-returns
 returns c = let f = c.before in let s = f.before in
-    unchanged w64 c.nearest.type-inv ∙ rounded s.args.n (q f) (d s) (gives w64 (rest f) tt) c.nearest.ensures
+    unchanged w64 c.nearest.type_inv ∙ rounded s.args.n (q f) (d s) (gives w64 (rest f) tt) c.nearest.ensures
 
-pub round-spec : {M : Type 1} → statement M
-round-spec =
+pub round_spec : {M : Type 1} → statement M
+round_spec =
     tie.close (tie.spec floor-div-requires mul-nearest sub-nearest nearest-requires returns)

@@ -4,5 +4,5 @@ use borrow.Author.Rules.{rules}
 use Rattle.light_sheet.proofs.check.Statement.{statement}
 use Rattle.light_sheet.proofs.check.Tie as tie
 
-pub check-spec : {M : Type 1} → statement M
-check-spec = tie.close (tie.spec (λ c κs. search rules) (λ c. (c.check.ensures, refl)))
+pub check_spec : {M : Type 1} → statement M
+check_spec = tie.close (tie.spec (λ c κs. search rules) (λ c. (c.check.ensures, refl)))

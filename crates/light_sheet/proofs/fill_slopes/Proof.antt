@@ -3,5 +3,5 @@ use borrow.Author.Rules.{rules}
 use Rattle.light_sheet.proofs.fill_slopes.Statement.{statement}
 use Rattle.light_sheet.proofs.fill_slopes.Tie as tie
 
-pub fill-slopes-spec : {M : Type 1} → statement M
-fill-slopes-spec = tie.close (tie.spec (λ c κs. search rules) (λ c. search rules) (λ c. c.before.before.fill-slopes.ensures))
+pub fill_slopes_spec : {M : Type 1} → statement M
+fill_slopes_spec = tie.close (tie.spec (λ c κs. search rules) (λ c. search rules) (λ c. c.before.before.fill_slopes.ensures))

@@ -4,5 +4,5 @@ use borrow.Author.Rules.{rules}
 use Rattle.light_sheet.proofs.node.Statement.{statement}
 use Rattle.light_sheet.proofs.node.Tie as tie
 
-pub node-spec : {M : Type 1} → statement M
-node-spec = tie.close (tie.spec (λ c κs. search rules) (λ c. (c.node.ensures, refl)))
+pub node_spec : {M : Type 1} → statement M
+node_spec = tie.close (tie.spec (λ c κs. search rules) (λ c. (c.node.ensures, refl)))

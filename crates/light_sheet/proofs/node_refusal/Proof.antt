@@ -4,5 +4,5 @@ use borrow.Author.Rules.{rules}
 use Rattle.light_sheet.proofs.node_refusal.Statement.{statement}
 use Rattle.light_sheet.proofs.node_refusal.Tie as tie
 
-pub node-refusal-spec : {M : Type 1} → statement M
-node-refusal-spec = tie.close (tie.spec (λ c κs. search rules) (λ c. (c.node-refusal.ensures, refl)))
+pub node_refusal_spec : {M : Type 1} → statement M
+node_refusal_spec = tie.close (tie.spec (λ c κs. search rules) (λ c. (c.node_refusal.ensures, refl)))

@@ -6,7 +6,7 @@ use Rattle.light_sheet.proofs.set_node.Tie as tie
 
 returns : tie.Need-returns
 returns c = let d = c.before.before in let s = d.before.before.before in
-    handed_on _ _ _ s.ranges.height s.ranges.x-slope s.ranges.y-slope d.set-node.ensures
+    handed_on _ _ _ s.ranges.height s.ranges.x_slope s.ranges.y_slope d.set_node.ensures
 
-pub set-node-spec : {M : Type 1} → statement M
-set-node-spec = tie.close (tie.spec (λ c κs. search rules) (λ c. search rules) returns)
+pub set_node_spec : {M : Type 1} → statement M
+set_node_spec = tie.close (tie.spec (λ c κs. search rules) (λ c. search rules) returns)

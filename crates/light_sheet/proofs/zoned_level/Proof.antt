@@ -4,5 +4,5 @@ use borrow.Author.Rules.{rules}
 use Rattle.light_sheet.proofs.zoned_level.Statement.{statement}
 use Rattle.light_sheet.proofs.zoned_level.Tie as tie
 
-pub zoned-level-spec : {M : Type 1} → statement M
-zoned-level-spec = tie.close (tie.spec (λ c κs. search rules) (λ c. (c.zoned-level.ensures, (refl, refl))))
+pub zoned_level_spec : {M : Type 1} → statement M
+zoned_level_spec = tie.close (tie.spec (λ c κs. search rules) (λ c. (c.zoned_level.ensures, (refl, refl))))

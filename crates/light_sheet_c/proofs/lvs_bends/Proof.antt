@@ -23,21 +23,21 @@ none_counted s x y places r n held e t = elim (ℕ_discrete (bends_refusal s x y
   | no h ↦ rw (refused_is s x y places h, ne_eqb _ 0 h) refl
 ]
 
-returns : tie.Need-returns
+returns : tie.Need-returns-in-Pieces
 unfolding tally count_over
 returns c =
     let b = c.before.before.before.before in
-    let t = ap tally (sym c.before.listed.given.1) ∙ b.bends.ensures.0 in
-    (ap (λ (t : Tally). t.number) t, (b.bends.ensures.1.0, (ap (λ (t : Tally). count_over t b.before.before.before.args.pieces.now) t, refl)))
+    let t = ap tally (sym c.before.listed-1.given.1) ∙ b.bends-listed.ensures.0 in
+    (ap (λ (t : Tally). t.number) t, (b.bends-listed.ensures.1.0, (ap (λ (t : Tally). count_over t b.before.before.before.args.pieces.now) t, refl)))
 
-returns-2 : tie.Need-returns-2
+returns-2 : tie.Need-returns-in-Refused
 unfolding tally
 returns-2 c =
     let b = c.before.before.before.before in
-    let t = ap tally (sym c.before.listed2.given.1) ∙ b.bends.ensures.0 in
-    (ap (λ (t : Tally). t.number) t, (b.bends.ensures.1.0, (none_counted _ _ _ _ _ _ _ c.before.listed2.given.1 b.bends.ensures.0, refl)))
+    let t = ap tally (sym c.before.listed-in-Refused-1.given.1) ∙ b.bends-listed.ensures.0 in
+    (ap (λ (t : Tally). t.number) t, (b.bends-listed.ensures.1.0, (none_counted _ _ _ _ _ _ _ c.before.listed-in-Refused-1.given.1 b.bends-listed.ensures.0, refl)))
 
-pub lvs-bends-spec : {M : Type 1} → statement M
-lvs-bends-spec =
+pub lvs_bends_spec : {M : Type 1} → statement M
+lvs_bends_spec =
     tie.close
     (tie.spec (λ c κs. search rules) (λ c. search rules) (λ c. search rules) (λ c. search rules) returns (λ c. search rules) returns-2)

@@ -3,5 +3,5 @@ use borrow.Author.Rules.{rules}
 use Rattle.light_sheet_c.proofs.lvs_fill_slopes.Statement.{statement}
 use Rattle.light_sheet_c.proofs.lvs_fill_slopes.Tie as tie
 
-pub lvs-fill-slopes-spec : {M : Type 1} → statement M
-lvs-fill-slopes-spec = tie.close (tie.spec (λ c κs. search rules) (λ c. search rules) (λ c. c.before.before.fill-slopes.ensures))
+pub lvs_fill_slopes_spec : {M : Type 1} → statement M
+lvs_fill_slopes_spec = tie.close (tie.spec (λ c κs. search rules) (λ c. search rules) (λ c. c.before.before.fill_slopes.ensures))

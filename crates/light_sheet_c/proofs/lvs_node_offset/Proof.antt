@@ -7,14 +7,14 @@ use Rattle.sheet_nodes.proofs.Answers.{looked-none, looked-found}
 use Rattle.light_sheet_c.proofs.lvs_node_offset.Statement.{statement}
 use Rattle.light_sheet_c.proofs.lvs_node_offset.Tie as tie
 
-returns : tie.Need-returns
-returns c = rw (looked-none _ _ _ c.before.node-refusal.ensures.0 c.if1.true) (refl, refl)
+returns : tie.Need-returns-then-node_refusal-ne0
+returns c = rw (looked-none _ _ _ c.before.node_refusal.ensures.0 c.if-node_refusal-ne0.true) (refl, refl)
 
-node-offset-requires : tie.Need-node-offset-requires
-node-offset-requires c κs = let h = lookup_held _ _ _ (sym c.before.node-refusal.ensures.0 ∙ c.if1.false) in (nodes_there _ h.accepted, h.column, h.row)
+node-offset-requires : tie.Need-node_offset-requires
+node-offset-requires c κs = let h = lookup_held _ _ _ (sym c.before.node_refusal.ensures.0 ∙ c.if-node_refusal-ne0.false) in (nodes_there _ h.accepted, h.column, h.row)
 
-returns-2 : tie.Need-returns-2
-returns-2 c = rw (looked-found _ _ _ c.before.before.node-refusal.ensures.0 c.before.if1.false) (c.node-offset.ensures.0, refl)
+returns-2 : tie.Need-returns
+returns-2 c = rw (looked-found _ _ _ c.before.before.node_refusal.ensures.0 c.before.if-node_refusal-ne0.false) (c.node_offset.ensures.0, refl)
 
-pub lvs-node-offset-spec : {M : Type 1} → statement M
-lvs-node-offset-spec = tie.close (tie.spec (λ c κs. search rules) returns node-offset-requires returns-2)
+pub lvs_node_offset_spec : {M : Type 1} → statement M
+lvs_node_offset_spec = tie.close (tie.spec (λ c κs. search rules) returns node-offset-requires returns-2)

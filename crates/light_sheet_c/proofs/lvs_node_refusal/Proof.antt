@@ -3,5 +3,5 @@ use borrow.Author.Rules.{rules}
 use Rattle.light_sheet_c.proofs.lvs_node_refusal.Statement.{statement}
 use Rattle.light_sheet_c.proofs.lvs_node_refusal.Tie as tie
 
-pub lvs-node-refusal-spec : {M : Type 1} → statement M
-lvs-node-refusal-spec = tie.close (tie.spec (λ c κs. search rules) (λ c. c.node-refusal.ensures))
+pub lvs_node_refusal_spec : {M : Type 1} → statement M
+lvs_node_refusal_spec = tie.close (tie.spec (λ c κs. search rules) (λ c. c.node_refusal.ensures))

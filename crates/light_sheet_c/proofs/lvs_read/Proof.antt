@@ -25,5 +25,5 @@ returns c =
     let o = k.read.ensures.0 in
     (c.store.ensures.0 ∙ ap (λ o. o.number) o, (c.store.ensures.1 ∙ ap (λ o. over (bits o.values) s.args.values.now) o, refl))
 
-pub lvs-read-spec : {M : Type 1} → statement M
-lvs-read-spec = tie.close (tie.spec (λ c κs. search rules) store-requires returns)
+pub lvs_read_spec : {M : Type 1} → statement M
+lvs_read_spec = tie.close (tie.spec (λ c κs. search rules) store-requires returns)

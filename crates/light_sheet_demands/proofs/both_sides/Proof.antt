@@ -4,5 +4,5 @@ use Rattle.light_sheet_demands.proofs.Bends.{both_sides}
 use Rattle.light_sheet_demands.proofs.both_sides.Statement.{statement}
 use Rattle.light_sheet_demands.proofs.both_sides.Tie as tie
 
-pub both-sides-spec : {M : Type 1} → statement M
-both-sides-spec = tie.close (tie.spec (λ c. (refl, both_sides)))
+pub both_sides_spec : {M : Type 1} → statement M
+both_sides_spec = tie.close (tie.spec (λ c. (refl, both_sides)))

@@ -4,5 +4,5 @@ use Rattle.light_sheet_demands.proofs.DemandOne.{demand_one}
 use Rattle.light_sheet_demands.proofs.demand_one.Statement.{statement}
 use Rattle.light_sheet_demands.proofs.demand_one.Tie as tie
 
-pub demand-one-spec : {M : Type 1} → statement M
-demand-one-spec = tie.close (tie.spec (λ c. (refl, demand_one)))
+pub demand_one_spec : {M : Type 1} → statement M
+demand_one_spec = tie.close (tie.spec (λ c. (refl, demand_one)))

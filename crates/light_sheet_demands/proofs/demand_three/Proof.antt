@@ -4,5 +4,5 @@ use Rattle.light_sheet_demands.proofs.DemandThree.{demand_three}
 use Rattle.light_sheet_demands.proofs.demand_three.Statement.{statement}
 use Rattle.light_sheet_demands.proofs.demand_three.Tie as tie
 
-pub demand-three-spec : {M : Type 1} → statement M
-demand-three-spec = tie.close (tie.spec (λ c. (refl, demand_three)))
+pub demand_three_spec : {M : Type 1} → statement M
+demand_three_spec = tie.close (tie.spec (λ c. (refl, demand_three)))

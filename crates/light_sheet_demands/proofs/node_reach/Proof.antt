@@ -4,5 +4,5 @@ use Rattle.light_sheet_demands.proofs.Reach.{node_reach}
 use Rattle.light_sheet_demands.proofs.node_reach.Statement.{statement}
 use Rattle.light_sheet_demands.proofs.node_reach.Tie as tie
 
-pub node-reach-spec : {M : Type 1} → statement M
-node-reach-spec = tie.close (tie.spec (λ c. (refl, node_reach)))
+pub node_reach_spec : {M : Type 1} → statement M
+node_reach_spec = tie.close (tie.spec (λ c. (refl, node_reach)))

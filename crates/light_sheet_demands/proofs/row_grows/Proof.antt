@@ -4,5 +4,5 @@ use Rattle.light_sheet_demands.proofs.Growing.{row_grows}
 use Rattle.light_sheet_demands.proofs.row_grows.Statement.{statement}
 use Rattle.light_sheet_demands.proofs.row_grows.Tie as tie
 
-pub row-grows-spec : {M : Type 1} → statement M
-row-grows-spec = tie.close (tie.spec (λ c. (refl, row_grows)))
+pub row_grows_spec : {M : Type 1} → statement M
+row_grows_spec = tie.close (tie.spec (λ c. (refl, row_grows)))

@@ -4,5 +4,5 @@ use Rattle.light_sheet_demands.proofs.Pooling.{sheets_pooled}
 use Rattle.light_sheet_demands.proofs.sheets_pooled.Statement.{statement}
 use Rattle.light_sheet_demands.proofs.sheets_pooled.Tie as tie
 
-pub sheets-pooled-spec : {M : Type 1} → statement M
-sheets-pooled-spec = tie.close (tie.spec (λ c. (refl, sheets_pooled)))
+pub sheets_pooled_spec : {M : Type 1} → statement M
+sheets_pooled_spec = tie.close (tie.spec (λ c. (refl, sheets_pooled)))

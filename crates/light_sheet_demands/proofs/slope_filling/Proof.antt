@@ -4,5 +4,5 @@ use Rattle.light_sheet_demands.proofs.Slopes.{slope_filling}
 use Rattle.light_sheet_demands.proofs.slope_filling.Statement.{statement}
 use Rattle.light_sheet_demands.proofs.slope_filling.Tie as tie
 
-pub slope-filling-spec : {M : Type 1} → statement M
-slope-filling-spec = tie.close (tie.spec (λ c. (refl, slope_filling)))
+pub slope_filling_spec : {M : Type 1} → statement M
+slope_filling_spec = tie.close (tie.spec (λ c. (refl, slope_filling)))

@@ -11,37 +11,37 @@ use Rattle.program_listing.proofs.Texts.{not_ended, few}
 use Rattle.program_levels.proofs.main.Statement.{statement}
 use Rattle.program_levels.proofs.main.Tie as tie
 
-abbrev invariant-loop : tie.invariant-loop
+abbrev invariant-loop : tie.invariant-loop-sheet
 invariant-loop n sheet refusal out₀ k₀ out k = row_room ≡ length out
 
-abbrev decreases-loop : tie.decreases-loop
+abbrev decreases-loop : tie.decreases-loop-sheet
 decreases-loop n sheet refusal out₀ k₀ out k = text_count sheet - k
 
 -- the text lies within the buffer
-within : (c : tie.After-next-text invariant-loop decreases-loop) → c.next-text.result ≤ length c.next-text.new.1.1.1.0
-within c = omega (arith, c.next-text.ensures.0, simp length-append at (ap length c.next-text.ensures.1))
+within : (c : tie.After-next_text-end invariant-loop decreases-loop) → c.next_text-end.result ≤ length c.next_text-end.new.1.1.1.0
+within c = omega (arith, c.next_text-end.ensures.0, simp length-append at (ap length c.next_text-end.ensures.1))
 
-array-share-prefix-out : tie.Need-array-share-prefix-out invariant-loop decreases-loop
+array-share-prefix-out : tie.Need-slice_bounds-out-end invariant-loop decreases-loop
 array-share-prefix-out c = within c.before.before
 
-slice-aggregate-write-all : tie.Need-slice-aggregate-write-all invariant-loop decreases-loop
+slice-aggregate-write-all : tie.Need-slice_bounds-write_all-end invariant-loop decreases-loop
 slice-aggregate-write-all c = sym (length-take-le _ _ (within c.before.before.before))
 
 -- where it has bytes, the end is not reached
-module _ (c : tie.Else1 invariant-loop decreases-loop) where
-  abbrev asked : tie.After-next-text invariant-loop decreases-loop
+module _ (c : tie.Else-end-eq0 invariant-loop decreases-loop) where
+  abbrev asked : tie.After-next_text-end invariant-loop decreases-loop
   asked = c.before.before
 
   abbrev sheet : List ℕ
-  sheet = let r = asked.before.before.before.before.before.before in take r.read-full.result r.read-full.last.1.0
+  sheet = let r = asked.before.before.before.before.before.before in take r.read_full-n.result r.read_full-n.last.1.0
 
-  more : asked.before.before.loop.k < text_count sheet
-  more = not_ended sheet _ (λ e. c.if1.false (asked.next-text.ensures.0 ∙ e))
+  more : asked.before.before.loop-sheet.k < text_count sheet
+  more = not_ended sheet _ (λ e. c.if-end-eq0.false (asked.next_text-end.ensures.0 ∙ e))
 
-add-k : tie.Need-overflow-add-k invariant-loop decreases-loop
+add-k : tie.Need-overflow_add-k invariant-loop decreases-loop
 add-k c = let d = c.before.before.before in record { fits = omega (arith, more d, few (sheet d)) }
 
-loop-less : tie.Need-loop-smaller invariant-loop decreases-loop
+loop-less : tie.Need-loop-sheet-smaller invariant-loop decreases-loop
 loop-less c = omega (arith, more c.before.before.before)
 
 pub main_spec : {M : Type 1} → statement M

@@ -8,14 +8,14 @@ use Rattle.surface_of_sheet.proofs.Cells.{sound}
 use Rattle.program_listing.proofs.last_row.Statement.{statement}
 use Rattle.program_listing.proofs.last_row.Tie as tie
 
-sub-line-y : tie.Need-overflow-sub-line-y
+sub-line-y : tie.Need-overflow_sub-rows
 sub-line-y c = omega (arith, c.rows.ensures.0, (sound _ c.before.before.requires).few_rows)
 
-line-y-requires : tie.Need-line-y-requires
+line-y-requires : tie.Need-line_y-requires
 line-y-requires c κs = let p = c.before.before.requires in (lines_there _ p, omega (arith, c.rows.ensures.0, (sound _ p).few_rows))
 
 returns : tie.Need-returns
-returns c = let s = c.before.before.before in c.line-y.ensures ∙ ap (λ (n : ℕ). line_y s.args.sheet.now (n - 1)) c.before.rows.ensures.0
+returns c = let s = c.before.before.before in c.line_y.ensures ∙ ap (λ (n : ℕ). line_y s.args.sheet.now (n - 1)) c.before.rows.ensures.0
 
-pub last-row-spec : {M : Type 1} → statement M
-last-row-spec = tie.close (tie.spec (λ c κs. header_there _ c.before.requires) sub-line-y line-y-requires returns)
+pub last_row_spec : {M : Type 1} → statement M
+last_row_spec = tie.close (tie.spec (λ c κs. header_there _ c.before.requires) sub-line-y line-y-requires returns)

@@ -17,12 +17,12 @@ use Rattle.program_listing.proofs.next_text.Statement.{statement}
 use Rattle.program_listing.proofs.next_text.Tie as tie
 
 -- the texts are at their end
-returns : tie.Need-returns
+returns : tie.Need-returns-then-text_count-k
 returns c = let s = c.before.before.before.before in
-    rw (next_none s.args.sheet.now s.args.k (omega (arith, c.before.text-count.ensures))) (refl, refl)
+    rw (next_none s.args.sheet.now s.args.k (omega (arith, c.before.text_count.ensures))) (refl, refl)
 
 -- they are not
-module _ (c : tie.Else1) where
+module _ (c : tie.Else-text_count-k) where
   abbrev start : tie.Start
   start = c.before.before.before.before
 
@@ -30,46 +30,46 @@ module _ (c : tie.Else1) where
   sheet = start.args.sheet.now
 
   more : start.args.k < text_count sheet
-  more = subst (λ n. start.args.k < n) c.before.text-count.ensures c.if1.false
+  more = subst (λ n. start.args.k < n) c.before.text_count.ensures c.if-text_count-k.false
 
 -- the sheet is refused
 refused-requires : tie.Need-refused-requires
-refused-requires c κs = let s = start c.before.before in omega (arith, refused_length s.args.refusal (omega arith), s.pre.1)
+refused-requires c κs = let s = start c.before.before in omega (arith, refused_length s.args.refusal (omega arith), s.requires.1)
 
-line-is : (c : tie.Then2) → let s = start c.before in refused_line s.args.refusal ≡ next_text (sheet c.before) s.args.k
-line-is c = let s = start c.before in ap refused_line s.pre.0 ∙ sym (line_next _ (λ e. c.if2.true (s.pre.0 ∙ e)) _ (more c.before))
+line-is : (c : tie.Then-refusal-ne0) → let s = start c.before in refused_line s.args.refusal ≡ next_text (sheet c.before) s.args.k
+line-is c = let s = start c.before in ap refused_line s.requires.0 ∙ sym (line_next _ (λ e. c.if-refusal-ne0.true (s.requires.0 ∙ e)) _ (more c.before))
 
-returns-2 : tie.Need-returns-2
+returns-2 : tie.Need-returns-then-refusal-ne0
 returns-2 c = let d = c.before.before in let t = d.before.before in
-    subst (λ b. AtStart (start t.before).args.out.now b d.refused.new.0 d.refused.result) (line-is t) d.refused.ensures
+    subst (λ b. AtStart (start t.before).args.out-1.now b d.refused.new.0 d.refused.result) (line-is t) d.refused.ensures
 
 -- the sheet is accepted
-unrefused : (c : tie.Else2) → sheet_refusal (sheet c.before) ≡ 0
-unrefused c = sym (start c.before).pre.0 ∙ c.if2.false
+unrefused : (c : tie.Else-refusal-ne0) → sheet_refusal (sheet c.before) ≡ 0
+unrefused c = sym (start c.before).requires.0 ∙ c.if-refusal-ne0.false
 
-line-y-requires : tie.Need-line-y-requires
+line-y-requires : tie.Need-line_y-requires
 line-y-requires c κs = let a = accepts (unrefused c) in (lines_there _ a, omega (arith, (sound _ a).few_rows))
 
-row : (c : tie.Else2) → OnRow (sheet c.before) (first_y (sheet c.before) + (start c.before).args.k)
+row : (c : tie.Else-refusal-ne0) → OnRow (sheet c.before) (first_y (sheet c.before) + (start c.before).args.k)
 row c = row_there _ (unrefused c) _ (more c.before)
 
-add-row-text : tie.Need-overflow-add-row-text
-add-row-text c = let r = row c.before in record { fits = omega (arith, c.line-y.ensures, r.bottom, last_y_near _ r.accepted) }
+add-row-text : tie.Need-overflow_add-line_y
+add-row-text c = let r = row c.before in record { fits = omega (arith, c.line_y.ensures, r.bottom, last_y_near _ r.accepted) }
 
-row-text-requires : tie.Need-row-text-requires
-row-text-requires c κs = (rw c.before.line-y.ensures (row c.before.before), search rules)
+row-text-requires : tie.Need-row_text-requires
+row-text-requires c κs = (rw c.before.line_y.ensures (row c.before.before), search rules)
 
-row_is : (c : tie.After-line-y) → let s = start c.before.before in
-    row_text (sheet c.before.before) (c.line-y.result + s.args.k) ≡ next_text (sheet c.before.before) s.args.k
+row_is : (c : tie.After-line_y) → let s = start c.before.before in
+    row_text (sheet c.before.before) (c.line_y.result + s.args.k) ≡ next_text (sheet c.before.before) s.args.k
 row_is c = let s = start c.before.before in
-    ap (λ n. row_text (sheet c.before.before) (n + s.args.k)) c.line-y.ensures ∙ sym (row_next _ (unrefused c.before) _ (more c.before.before))
+    ap (λ n. row_text (sheet c.before.before) (n + s.args.k)) c.line_y.ensures ∙ sym (row_next _ (unrefused c.before) _ (more c.before.before))
 
-returns-3 : tie.Need-returns-3
+returns-3 : tie.Need-returns
 returns-3 c = let d = c.before.before in let y = d.before.before in
-    subst (λ b. AtStart (start y.before.before).args.out.now b d.row-text.new.1.1.0 d.row-text.result) (row_is y) d.row-text.ensures
+    subst (λ b. AtStart (start y.before.before).args.out-1.now b d.row_text.new.1.1.0 d.row_text.result) (row_is y) d.row_text.ensures
 
-pub next-text-spec : {M : Type 1} → statement M
-next-text-spec =
+pub next_text_spec : {M : Type 1} → statement M
+next_text_spec =
     tie.close
     (tie.spec
     (λ c κs. search rules)

@@ -18,7 +18,7 @@ use Rattle.program_listing.proofs.Lengths.{line_fits}
 use Rattle.program_listing.proofs.pixel_line.Statement.{statement}
 use Rattle.program_listing.proofs.pixel_line.Tie as tie
 
-module _ (c : tie.After-level-and-tilt) where
+module _ (c : tie.After-level_and_tilt-reading) where
   abbrev s : tie.Start
   s = c.before.before.before
 
@@ -31,18 +31,18 @@ module _ (c : tie.After-level-and-tilt) where
 
   abbrev level_read : Operand
   level_read =
-      returned w64 (ap (λ r. get_or r 0 (pos 0)) c.level-and-tilt.ensures)
-      (is_within _ {N = 2 ^ 20} (le_of_lt (level_below _ _ _ s.pre.0 s.pre.1))) tt
+      returned w64 (ap (λ r. get_or r 0 (pos 0)) c.level_and_tilt-reading.ensures)
+      (is_within _ {N = 2 ^ 20} (le_of_lt (level_below _ _ _ s.requires.0 s.requires.1))) tt
 
   abbrev tilt_x_read : Operand
   tilt_x_read =
-      returned w64 (ap (λ r. get_or r 1 (pos 0)) c.level-and-tilt.ensures)
-      (is_within _ {N = 2 ^ 27} (le_of_lt (tilts_below _ _ _ s.pre.0 s.pre.1).0)) tt
+      returned w64 (ap (λ r. get_or r 1 (pos 0)) c.level_and_tilt-reading.ensures)
+      (is_within _ {N = 2 ^ 27} (le_of_lt (tilts_below _ _ _ s.requires.0 s.requires.1).0)) tt
 
   abbrev tilt_y_read : Operand
   tilt_y_read =
-      returned w64 (ap (λ r. get_or r 2 (pos 0)) c.level-and-tilt.ensures)
-      (is_within _ {N = 2 ^ 27} (le_of_lt (tilts_below _ _ _ s.pre.0 s.pre.1).1)) tt
+      returned w64 (ap (λ r. get_or r 2 (pos 0)) c.level_and_tilt-reading.ensures)
+      (is_within _ {N = 2 ^ 27} (le_of_lt (tilts_below _ _ _ s.requires.0 s.requires.1).1)) tt
 
   abbrev numbers : List ℤ
   numbers = x_read.read ∷ y_read.read ∷ level_read.read ∷ tilt_x_read.read ∷ tilt_y_read.read ∷ []
@@ -58,11 +58,11 @@ line-requires c κs = let d = c.before.before.before.before.before in
 returns : tie.Need-returns
 returns c = let d = c.before.before.before.before.before.before.before.before in
     let a = (s d).args in
-    subst (λ b. Written a.out.now a.at b c.before.before.line.new.0 c.before.before.line.result) (line_is d)
+    subst (λ b. Written a.out-1.now a.at b c.before.before.line.new.0 c.before.before.line.result) (line_is d)
     c.before.before.line.ensures
 
-pub pixel-line-spec : {M : Type 1} → statement M
-pixel-line-spec =
+pub pixel_line_spec : {M : Type 1} → statement M
+pixel_line_spec =
     tie.close
     (tie.spec
     (λ c κs. search rules)

@@ -9,10 +9,10 @@ use Rattle.program_reach.proofs.main.Statement.{statement}
 use Rattle.program_reach.proofs.main.Tie as tie
 
 -- the line lies within the buffer
-within : (c : tie.After-reach-text) → c.reach-text.result ≤ length c.reach-text.new.1.0
-within c = omega (arith, c.reach-text.ensures.0, simp length-append at (ap length c.reach-text.ensures.1))
+within : (c : tie.After-reach_text-end) → c.reach_text-end.result ≤ length c.reach_text-end.new.1.0
+within c = omega (arith, c.reach_text-end.ensures.0, simp length-append at (ap length c.reach_text-end.ensures.1))
 
-slice-aggregate-write-all : tie.Need-slice-aggregate-write-all
+slice-aggregate-write-all : tie.Need-slice_bounds-write_all-end
 slice-aggregate-write-all c = sym (length-take-le _ _ (within c.before.before))
 
 pub main_spec : {M : Type 1} → statement M

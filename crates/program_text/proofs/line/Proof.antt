@@ -19,10 +19,10 @@ use Rattle.program_text.proofs.line.Statement.{statement}
 use Rattle.program_text.proofs.line.Tie as tie
 
 -- the fields of the first k numbers are written
-abbrev invariant-loop : tie.invariant-loop
+abbrev invariant-loop : tie.invariant-loop-k
 invariant-loop out₀ at numbers last end₀ k₀ out end k = (k ≤ last) × Written out₀ at (fields numbers k) out end
 
-abbrev decreases-loop : tie.decreases-loop
+abbrev decreases-loop : tie.decreases-loop-k
 decreases-loop out₀ at numbers last end₀ k₀ out end k = last - k
 
 -- a number is handed on as it stands
@@ -32,23 +32,23 @@ module _ (t : List ℕ) (e : ℕ) (z : ℤ) (behind : ℕ) (fits : mag z < 2 ^ h
 
 -- ---- a turn: the next number, and a blank
 
-inside : (c : tie.In-loop invariant-loop decreases-loop) → suc c.before.loop.k < length c.before.before.before.args.numbers.now
-inside c = omega (arith, c.loop-test.true)
+inside : (c : tie.In-loop-k invariant-loop decreases-loop) → suc c.before.loop-k.k < length c.before.before.before.args.numbers.now
+inside c = omega (arith, c.loop-k-test.true)
 
-field-requires : tie.Need-field-requires invariant-loop decreases-loop
-field-requires c κs = let d = c.before.before in let l = d.before.loop in
-    rw (unchanged w64 c.field-arg2.given) (next_room _ _ _ d.before.before.before.requires.1 l.k l.invariant.1 (inside d))
+field-requires : tie.Need-field-end-requires invariant-loop decreases-loop
+field-requires c κs = let d = c.before.before in let l = d.before.loop-k in
+    rw (unchanged w64 c.field-arg-in-loop-k-1.given) (next_room _ _ _ d.before.before.before.requires.1 l.k l.invariant.1 (inside d))
 
-loop-again : tie.Need-loop-preserved invariant-loop decreases-loop
-loop-again c = let f = c.before.before in let d = f.before.before.before in let l = d.before.loop in (
+loop-again : tie.Need-loop-k-preserved invariant-loop decreases-loop
+loop-again c = let f = c.before.before in let d = f.before.before.before in let l = d.before.loop-k in (
   omega (arith, inside d),
   rw (add-one l.k) (next_written _ _ _ d.before.before.before.requires.1 l.k l.invariant.1 (inside d)
-      (handed _ _ _ _ f.before.field-arg2.given f.field.ensures)),
+      (handed _ _ _ _ f.before.field-arg-in-loop-k-1.given f.field-end.ensures)),
 )
 
 -- ---- the last number, and the end of the line
 
-module _ (c : tie.After-loop invariant-loop decreases-loop) where
+module _ (c : tie.After-loop-k invariant-loop decreases-loop) where
   abbrev s : tie.Start invariant-loop decreases-loop
   s = c.before.before.before
 
@@ -56,24 +56,24 @@ module _ (c : tie.After-loop invariant-loop decreases-loop) where
   numbers = s.args.numbers.now
 
   ends : suc (length numbers - 1) ≡ length numbers
-  ends = omega (arith, s.pre.0)
+  ends = omega (arith, s.requires.0)
 
-  begun : Written s.args.out.now s.args.at (fields numbers (length numbers - 1)) c.before.loop.out c.before.loop.end
-  begun = let e : c.before.loop.k ≡ length numbers - 1 = omega (arith, c.loop-test.false) in rw (← e) c.before.loop.invariant.1
+  begun : Written s.args.out-1.now s.args.at (fields numbers (length numbers - 1)) c.before.loop-k.out-1 c.before.loop-k.end
+  begun = let e : c.before.loop-k.k ≡ length numbers - 1 = omega (arith, c.loop-k-test.false) in rw (← e) c.before.loop-k.invariant.1
 
-field-requires-2 : tie.Need-field-requires-2 invariant-loop decreases-loop
+field-requires-2 : tie.Need-field-requires invariant-loop decreases-loop
 field-requires-2 c κs = let d = c.before.before in
-    rw (unchanged w64 c.field-arg4.given) (last_room _ _ _ (s d).requires.1 _ (begun d) (ends d))
+    rw (unchanged w64 c.field-arg-3-1.given) (last_room _ _ _ (s d).requires.1 _ (begun d) (ends d))
 
 returns : tie.Need-returns invariant-loop decreases-loop
 returns c = let f = c.before.before in let d = f.before.before.before in
-    line_written _ _ _ (s d).requires.1 _ (begun d) (ends d) (handed _ _ _ _ f.before.field-arg4.given f.field2.ensures)
+    line_written _ _ _ (s d).requires.1 _ (begun d) (ends d) (handed _ _ _ _ f.before.field-arg-3-1.given f.field.ensures)
 
-same_length : tie.Need-same-length invariant-loop decreases-loop
+same_length : tie.Need-shape_of-out invariant-loop decreases-loop
 same_length c = let d = c.before.before.before.before.before in ap length (returns c).1 ∙ replaced_length _ _ _ (s d).requires.1
 
-pub line-spec : {M : Type 1} → statement M
-line-spec =
+pub line_spec : {M : Type 1} → statement M
+line_spec =
     tie.close
     (tie.spec
     invariant-loop

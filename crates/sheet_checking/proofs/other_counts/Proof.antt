@@ -10,7 +10,7 @@ unfolding other_counts
 returns c =
     let n = c.before in
     let m = n.before.before in
-    rw (c.reserved.ensures, n.count-in2.ensures, n.before.rows.ensures.0, m.count-in.ensures, m.before.columns.ensures.0) refl
+    rw (c.reserved.ensures, n.count_in-2.ensures, n.before.rows.ensures.0, m.count_in.ensures, m.before.columns.ensures.0) refl
 
-pub other-counts-spec : {M : Type 1} → statement M
-other-counts-spec = tie.close (tie.spec (λ c κs. search rules) (λ c κs. search rules) (λ c κs. search rules) (λ c κs. search rules) (λ c κs. search rules) returns)
+pub other_counts_spec : {M : Type 1} → statement M
+other_counts_spec = tie.close (tie.spec (λ c κs. search rules) (λ c κs. search rules) (λ c κs. search rules) (λ c κs. search rules) (λ c κs. search rules) returns)

@@ -5,6 +5,6 @@ use Rattle.sheet_calls.specs.Refusals.{other_version}
 use Rattle.sheet_checking.proofs.other_version.Statement.{statement}
 use Rattle.sheet_checking.proofs.other_version.Tie as tie
 
-pub other-version-spec : {M : Type 1} → statement M
+pub other_version_spec : {M : Type 1} → statement M
 unfolding other_version
-other-version-spec = tie.close (tie.spec (λ c κs. search rules) (λ c κs. search rules) (λ c. rw (c.supported.ensures, c.before.version.ensures) refl))
+other_version_spec = tie.close (tie.spec (λ c κs. search rules) (λ c κs. search rules) (λ c. rw (c.supported.ensures, c.before.version.ensures) refl))

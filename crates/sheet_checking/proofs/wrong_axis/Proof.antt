@@ -11,31 +11,31 @@ use Rattle.sheet_checking.proofs.Lines.{next_line}
 use Rattle.sheet_checking.proofs.wrong_axis.Statement.{statement}
 use Rattle.sheet_checking.proofs.wrong_axis.Tie as tie
 
-abbrev invariant-loop : tie.invariant-loop
+abbrev invariant-loop : tie.invariant-loop-k
 invariant-loop sheet start lines wrong₀ k₀ wrong k = (1 ≤ k) × (k ≤ lines) × (wrong ≡ some (wrong_line (line_from sheet start)) k)
 
-abbrev decreases-loop : tie.decreases-loop
+abbrev decreases-loop : tie.decreases-loop-k
 decreases-loop sheet start lines wrong₀ k₀ wrong k = lines - k
 
-loop-holds : tie.Need-loop-init invariant-loop decreases-loop
+loop-holds : tie.Need-loop-k-init invariant-loop decreases-loop
 unfolding some wrong_line
-loop-holds c = (search rules, search rules, ap (ltb furthest) c.line-from.ensures.0)
+loop-holds c = (search rules, search rules, ap (ltb furthest) c.line_from-wrong.ensures.0)
 
-wrong-step-requires : tie.Need-wrong-step-requires invariant-loop decreases-loop
-wrong-step-requires c κs = c.before.line-from2.ensures.1
+wrong-step-requires : tie.Need-wrong_step-wrong-requires invariant-loop decreases-loop
+wrong-step-requires c κs = c.before.line_from.ensures.1
 
-loop-again : tie.Need-loop-preserved invariant-loop decreases-loop
+loop-again : tie.Need-loop-k-preserved invariant-loop decreases-loop
 loop-again c =
     let l = c.before.before.before in
-    let h = l.before.loop.invariant in
+    let h = l.before.loop-k.invariant in
     let a = l.before.before.before.before.args in
-    (search rules, search rules, next_line (line_from a.sheet.now a.start) _ h.0 _ _ _ _ h.2 c.before.before.line-from2.ensures.0 c.before.line-from3.ensures.0 c.wrong-step.ensures)
+    (search rules, search rules, next_line (line_from a.sheet.now a.start) _ h.0 _ _ _ _ h.2 c.before.before.line_from.ensures.0 c.before.line_from-in-loop-k.ensures.0 c.wrong_step-wrong.ensures)
 
 returns : tie.Need-returns invariant-loop decreases-loop
-returns c = gathered_all _ _ _ _ c.before.loop.invariant.1 c.loop-test.false c.before.loop.invariant.2
+returns c = gathered_all _ _ _ _ c.before.loop-k.invariant.1 c.loop-k-test.false c.before.loop-k.invariant.2
 
-pub wrong-axis-spec : {M : Type 1} → statement M
-wrong-axis-spec =
+pub wrong_axis_spec : {M : Type 1} → statement M
+wrong_axis_spec =
     tie.close
     (tie.spec
     invariant-loop

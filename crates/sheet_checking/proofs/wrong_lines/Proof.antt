@@ -11,7 +11,7 @@ returns c =
     let r = c.before in
     let y = r.before in
     let x = y.before in
-    rw (c.wrong-axis2.ensures, r.rows.ensures.0, y.y-lines-offset.ensures.0, x.wrong-axis.ensures, x.before.columns.ensures.0) refl
+    rw (c.wrong_axis-down.ensures, r.rows.ensures.0, y.y_lines_offset.ensures.0, x.wrong_axis-across.ensures, x.before.columns.ensures.0) refl
 
-pub wrong-lines-spec : {M : Type 1} → statement M
-wrong-lines-spec = tie.close (tie.spec (λ c κs. search rules) (λ c κs. search rules) (λ c κs. search rules) (λ c κs. search rules) (λ c κs. search rules) returns)
+pub wrong_lines_spec : {M : Type 1} → statement M
+wrong_lines_spec = tie.close (tie.spec (λ c κs. search rules) (λ c κs. search rules) (λ c κs. search rules) (λ c κs. search rules) (λ c κs. search rules) returns)

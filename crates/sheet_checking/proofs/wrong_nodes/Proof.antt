@@ -5,6 +5,6 @@ use Rattle.sheet_calls.specs.Refusals.{wrong_nodes}
 use Rattle.sheet_checking.proofs.wrong_nodes.Statement.{statement}
 use Rattle.sheet_checking.proofs.wrong_nodes.Tie as tie
 
-pub wrong-nodes-spec : {M : Type 1} → statement M
+pub wrong_nodes_spec : {M : Type 1} → statement M
 unfolding wrong_nodes
-wrong-nodes-spec = tie.close (tie.spec (λ c κs. le_of_eq (sym c.before.requires)) (λ c. c.some-node-out.ensures))
+wrong_nodes_spec = tie.close (tie.spec (λ c κs. le_of_eq (sym c.before.requires)) (λ c. c.some_node_out.ensures))

@@ -9,5 +9,5 @@ returns : tie.Need-returns
 unfolding wrong_step
 returns c = refl
 
-pub wrong-step-spec : {M : Type 1} → statement M
-wrong-step-spec = tie.close (tie.spec (λ c. search rules) returns)
+pub wrong_step_spec : {M : Type 1} → statement M
+wrong_step_spec = tie.close (tie.spec (λ c. search rules) returns)

@@ -12,49 +12,49 @@ use Rattle.sheet_slopes.proofs.InPlace.{row_fillable, row_columns, row_rows, row
 use Rattle.sheet_filling.proofs.fill_row.Statement.{statement}
 use Rattle.sheet_filling.proofs.fill_row.Tie as tie
 
-abbrev invariant-loop : tie.invariant-loop
+abbrev invariant-loop : tie.invariant-loop-column
 invariant-loop sheet₀ stiffness row count column₀ sheet column = (column ≤ count) × (sheet ≡ row_filled sheet₀ stiffness row column)
 
-abbrev decreases-loop : tie.decreases-loop
+abbrev decreases-loop : tie.decreases-loop-column
 decreases-loop sheet₀ stiffness row count column₀ sheet column = count - column
 
-loop-holds : tie.Need-loop-init invariant-loop decreases-loop
+loop-holds : tie.Need-loop-column-init invariant-loop decreases-loop
 unfolding row_filled
 loop-holds c = (omega arith, refl)
 
-fill-node-requires : tie.Need-fill-node-requires invariant-loop decreases-loop
+fill-node-requires : tie.Need-fill_node-requires invariant-loop decreases-loop
 fill-node-requires c κs =
     let d = c.before.before in
     let s = d.before.before.before.before in
     let (f, l) = s.requires in
-    let n = d.before.columns.ensures.0 in
-    let part : d.loop.column ≤ columns s.args.sheet.now = omega (arith, d.loop.invariant.0, n) in
-    rw d.loop.invariant.1 (
+    let n = d.before.columns-count.ensures.0 in
+    let part : d.loop-column.column ≤ columns s.args.sheet-1.now = omega (arith, d.loop-column.invariant.0, n) in
+    rw d.loop-column.invariant.1 (
       row_fillable f _ l _ part,
-      rw (row_columns f _ l _ part) (omega (arith, c.before.loop-test.true, n)),
+      rw (row_columns f _ l _ part) (omega (arith, c.before.loop-column-test.true, n)),
       rw (row_rows f _ l _ part) l,
     )
 
-loop-again : tie.Need-loop-preserved invariant-loop decreases-loop
+loop-again : tie.Need-loop-column-preserved invariant-loop decreases-loop
 unfolding row_filled
 loop-again c =
     let d = c.before.before.before.before.before in
-    (search rules, c.before.before.fill-node.ensures ∙ rw (d.loop.invariant.1, add-one d.loop.column) refl)
+    (search rules, c.before.before.fill_node.ensures ∙ rw (d.loop-column.invariant.1, add-one d.loop-column.column) refl)
 
-same_length : tie.Need-same-length invariant-loop decreases-loop
+same_length : tie.Need-shape_of-sheet invariant-loop decreases-loop
 same_length c =
     let d = c.before in
     let s = d.before.before.before.before in
-    let part : d.loop.column ≤ columns s.args.sheet.now = omega (arith, d.loop.invariant.0, d.before.columns.ensures.0) in
-    ap length d.loop.invariant.1 ∙ (row_same s.requires.0 _ s.requires.1 _ part).size
+    let part : d.loop-column.column ≤ columns s.args.sheet-1.now = omega (arith, d.loop-column.invariant.0, d.before.columns-count.ensures.0) in
+    ap length d.loop-column.invariant.1 ∙ (row_same s.requires.0 _ s.requires.1 _ part).size
 
 returns : tie.Need-returns invariant-loop decreases-loop
 returns c =
     let d = c.before in
-    d.loop.invariant.1 ∙ ap (row_filled _ _ _) (le_antisymm d.loop.invariant.0 c.loop-test.false ∙ d.before.columns.ensures.0)
+    d.loop-column.invariant.1 ∙ ap (row_filled _ _ _) (le_antisymm d.loop-column.invariant.0 c.loop-column-test.false ∙ d.before.columns-count.ensures.0)
 
-pub fill-row-spec : {M : Type 1} → statement M
-fill-row-spec =
+pub fill_row_spec : {M : Type 1} → statement M
+fill_row_spec =
     tie.close
     (tie.spec
     invariant-loop

@@ -12,49 +12,49 @@ use Rattle.sheet_slopes.proofs.InPlace.{rows_fillable, rows_columns, rows_rows, 
 use Rattle.sheet_filling.proofs.fill_rows.Statement.{statement}
 use Rattle.sheet_filling.proofs.fill_rows.Tie as tie
 
-abbrev invariant-loop : tie.invariant-loop
+abbrev invariant-loop : tie.invariant-loop-row
 invariant-loop sheet₀ stiffness count row₀ sheet row = (row ≤ count) × (sheet ≡ rows_filled sheet₀ stiffness row)
 
-abbrev decreases-loop : tie.decreases-loop
+abbrev decreases-loop : tie.decreases-loop-row
 decreases-loop sheet₀ stiffness count row₀ sheet row = count - row
 
-loop-holds : tie.Need-loop-init invariant-loop decreases-loop
+loop-holds : tie.Need-loop-row-init invariant-loop decreases-loop
 unfolding rows_filled
 loop-holds c = (omega arith, refl)
 
-fill-row-requires : tie.Need-fill-row-requires invariant-loop decreases-loop
+fill-row-requires : tie.Need-fill_row-requires invariant-loop decreases-loop
 fill-row-requires c κs =
     let d = c.before.before in
     let s = d.before.before.before.before in
-    let n = d.before.rows.ensures.0 in
-    let part : d.loop.row ≤ rows s.args.sheet.now = omega (arith, d.loop.invariant.0, n) in
-    rw d.loop.invariant.1 (
+    let n = d.before.rows-count.ensures.0 in
+    let part : d.loop-row.row ≤ rows s.args.sheet-1.now = omega (arith, d.loop-row.invariant.0, n) in
+    rw d.loop-row.invariant.1 (
       rows_fillable s.requires _ part,
-      rw (rows_rows s.requires _ part) (omega (arith, c.before.loop-test.true, n)),
+      rw (rows_rows s.requires _ part) (omega (arith, c.before.loop-row-test.true, n)),
     )
 
-loop-again : tie.Need-loop-preserved invariant-loop decreases-loop
+loop-again : tie.Need-loop-row-preserved invariant-loop decreases-loop
 unfolding rows_filled
 loop-again c =
     let d = c.before.before.before.before.before in
     let s = d.before.before.before.before in
-    let part : d.loop.row ≤ rows s.args.sheet.now = omega (arith, d.loop.invariant.0, d.before.rows.ensures.0) in
-    (search rules, c.before.before.fill-row.ensures ∙ rw (d.loop.invariant.1, add-one d.loop.row, rows_columns s.requires _ part) refl)
+    let part : d.loop-row.row ≤ rows s.args.sheet-1.now = omega (arith, d.loop-row.invariant.0, d.before.rows-count.ensures.0) in
+    (search rules, c.before.before.fill_row.ensures ∙ rw (d.loop-row.invariant.1, add-one d.loop-row.row, rows_columns s.requires _ part) refl)
 
-same_length : tie.Need-same-length invariant-loop decreases-loop
+same_length : tie.Need-shape_of-sheet invariant-loop decreases-loop
 same_length c =
     let d = c.before in
     let s = d.before.before.before.before in
-    let part : d.loop.row ≤ rows s.args.sheet.now = omega (arith, d.loop.invariant.0, d.before.rows.ensures.0) in
-    ap length d.loop.invariant.1 ∙ (rows_same s.requires _ part).size
+    let part : d.loop-row.row ≤ rows s.args.sheet-1.now = omega (arith, d.loop-row.invariant.0, d.before.rows-count.ensures.0) in
+    ap length d.loop-row.invariant.1 ∙ (rows_same s.requires _ part).size
 
 returns : tie.Need-returns invariant-loop decreases-loop
 returns c =
     let d = c.before in
-    d.loop.invariant.1 ∙ ap (rows_filled _ _) (le_antisymm d.loop.invariant.0 c.loop-test.false ∙ d.before.rows.ensures.0)
+    d.loop-row.invariant.1 ∙ ap (rows_filled _ _) (le_antisymm d.loop-row.invariant.0 c.loop-row-test.false ∙ d.before.rows-count.ensures.0)
 
-pub fill-rows-spec : {M : Type 1} → statement M
-fill-rows-spec =
+pub fill_rows_spec : {M : Type 1} → statement M
+fill_rows_spec =
     tie.close
     (tie.spec
     invariant-loop

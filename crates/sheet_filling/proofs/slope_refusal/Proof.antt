@@ -6,26 +6,26 @@ use Rattle.sheet_filling.proofs.Answers.{sheet-refused, stiffness-refused, steep
 use Rattle.sheet_filling.proofs.slope_refusal.Statement.{statement}
 use Rattle.sheet_filling.proofs.slope_refusal.Tie as tie
 
-returns : tie.Need-returns
-returns c = sheet-refused _ _ c.before.sheet-refusal.ensures c.if1.true
+returns : tie.Need-returns-then-of_sheet-ne0
+returns c = sheet-refused _ _ c.before.sheet_refusal-of_sheet.ensures c.if-of_sheet-ne0.true
 
-returns-2 : tie.Need-returns-2
-returns-2 c = let d = c.before in stiffness-refused _ _ d.before.sheet-refusal.ensures d.if1.false c.if2.true
+returns-2 : tie.Need-returns-then-stiffness-gt64
+returns-2 c = let d = c.before in stiffness-refused _ _ d.before.sheet_refusal-of_sheet.ensures d.if-of_sheet-ne0.false c.if-stiffness-gt64.true
 
-some-too-steep-requires : tie.Need-some-too-steep-requires
-some-too-steep-requires c κs = let d = c.before in (accepts (sym d.before.sheet-refusal.ensures ∙ d.if1.false), c.if2.false)
+some-too-steep-requires : tie.Need-some_too_steep-requires
+some-too-steep-requires c κs = let d = c.before in (accepts (sym d.before.sheet_refusal-of_sheet.ensures ∙ d.if-of_sheet-ne0.false), c.if-stiffness-gt64.false)
 
-returns-3 : tie.Need-returns-3
+returns-3 : tie.Need-returns-then-some_too_steep
 returns-3 c =
     let e = c.before.before in
     let d = e.before in
-    steepness-answer _ _ d.before.sheet-refusal.ensures d.if1.false e.if2.false (sym c.before.some-too-steep.ensures ∙ c.if3.true)
+    steepness-answer _ _ d.before.sheet_refusal-of_sheet.ensures d.if-of_sheet-ne0.false e.if-stiffness-gt64.false (sym c.before.some_too_steep.ensures ∙ c.if-some_too_steep.true)
 
-returns-4 : tie.Need-returns-4
+returns-4 : tie.Need-returns
 returns-4 c =
     let e = c.before.before in
     let d = e.before in
-    steepness-answer _ _ d.before.sheet-refusal.ensures d.if1.false e.if2.false (sym c.before.some-too-steep.ensures ∙ c.if3.false)
+    steepness-answer _ _ d.before.sheet_refusal-of_sheet.ensures d.if-of_sheet-ne0.false e.if-stiffness-gt64.false (sym c.before.some_too_steep.ensures ∙ c.if-some_too_steep.false)
 
-pub slope-refusal-spec : {M : Type 1} → statement M
-slope-refusal-spec = tie.close (tie.spec (λ c κs. search rules) returns returns-2 some-too-steep-requires returns-3 returns-4)
+pub slope_refusal_spec : {M : Type 1} → statement M
+slope_refusal_spec = tie.close (tie.spec (λ c κs. search rules) returns returns-2 some-too-steep-requires returns-3 returns-4)

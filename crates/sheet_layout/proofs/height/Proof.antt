@@ -11,10 +11,10 @@ use Rattle.sheet_layout.proofs.height.Statement.{statement}
 use Rattle.sheet_layout.proofs.height.Tie as tie
 
 -- the height in steps, times 64
-abbrev grains : tie.After-signed-word → Operand
+abbrev grains : tie.After-signed_word → Operand
 grains c =
     let a = c.before.before.before.args in
-    let e = first_is a.sheet.now a.column a.row c.before.node-offset.ensures.0 c.signed_word.ensures.0 in
+    let e = first_is a.sheet.now a.column a.row c.before.node_offset.ensures.0 c.signed_word.ensures.0 in
     literal (pos 64) ⊠ returned w64 e (subst (λ z. z within 32768) e c.signed_word.ensures.1) tt
 
 returns : tie.Need-returns

@@ -10,7 +10,7 @@ use Rattle.sheet_layout.proofs.node_count.Tie as tie
 product : (c : tie.After-rows) → c.before.columns.result * c.rows.result ≤ 256 * 256
 product c = mul-le-mul (le_of_lt c.before.columns.ensures.1) (le_of_lt c.rows.ensures.1)
 
-mul-result : tie.Need-overflow-mul-result
+mul-result : tie.Need-overflow_mul-result
 mul-result c = record { fits = omega (arith, product c) }
 
 returns : tie.Need-returns
@@ -19,5 +19,5 @@ returns c =
     let n = c.rows.ensures.0 in
     ((λ t. m t * n t), product c)
 
-pub node-count-spec : {M : Type 1} → statement M
-node-count-spec = tie.close (tie.spec (λ c κs. search rules) (λ c κs. search rules) mul-result returns)
+pub node_count_spec : {M : Type 1} → statement M
+node_count_spec = tie.close (tie.spec (λ c κs. search rules) (λ c κs. search rules) mul-result returns)

@@ -13,15 +13,15 @@ returns c =
     let second = c.before in
     let first = second.before in
     let a = first.before.before.before.args in
-    let at = first.before.node-offset.ensures.0 in
-    let heights = unchanged w64 first.height.type-inv ∙ first.height.ensures.0 in
+    let at = first.before.node_offset-at.ensures.0 in
+    let heights = unchanged w64 first.height.type_inv ∙ first.height.ensures.0 in
     let slopes = slopes_read a.sheet.now a.column a.row in
-    let x-slopes = unchanged w64 second.signed_word.type-inv ∙ number_is a.sheet.now a.column a.row 2 at second.signed_word.ensures.0 ∙ sym slopes.0 in
-    let y-slopes = unchanged w64 c.signed-word2.type-inv ∙ number_is a.sheet.now a.column a.row 4 at c.signed-word2.ensures.0 ∙ sym slopes.1 in
+    let x-slopes = unchanged w64 second.signed_word.type_inv ∙ number_is a.sheet.now a.column a.row 2 at second.signed_word.ensures.0 ∙ sym slopes.0 in
+    let y-slopes = unchanged w64 c.signed_word-2.type_inv ∙ number_is a.sheet.now a.column a.row 4 at c.signed_word-2.ensures.0 ∙ sym slopes.1 in
     λ t. heights t ∷ x-slopes t ∷ y-slopes t ∷ []
 
-pub node-numbers-spec : {M : Type 1} → statement M
-node-numbers-spec =
+pub node_numbers_spec : {M : Type 1} → statement M
+node_numbers_spec =
     tie.close
     (tie.spec
     (λ c κs. search rules)

@@ -15,16 +15,16 @@ fits c = let s = c.before.before.before in rw c.columns.ensures.0 (node_fits s.a
 
 returns : tie.Need-returns
 returns c = let s = c.before.before.before in
-    rw (c.before.nodes-offset.ensures.0, c.columns.ensures.0) (refl, node_fits s.args.sheet.now s.requires.0 _ _ s.requires.1 s.requires.2)
+    rw (c.before.nodes_offset.ensures.0, c.columns.ensures.0) (refl, node_fits s.args.sheet.now s.requires.0 _ _ s.requires.1 s.requires.2)
 
-pub node-offset-spec : {M : Type 1} → statement M
-node-offset-spec =
+pub node_offset_spec : {M : Type 1} → statement M
+node_offset_spec =
     tie.close
     (tie.spec
     (λ c κs. omega (arith, c.before.requires.0))
     (λ c κs. omega (arith, c.before.before.requires.0))
-    (λ c. omega (arith, fits c, c.before.before.before.well-formed.0.0))
-    (λ c. omega (arith, fits c, c.before.before.before.well-formed.0.0))
-    (λ c. omega (arith, fits c, c.before.before.before.well-formed.0.0))
-    (λ c. omega (arith, fits c, c.before.before.before.well-formed.0.0, c.before.nodes-offset.ensures.1))
+    (λ c. omega (arith, fits c, c.before.before.before.well_formed.0.0))
+    (λ c. omega (arith, fits c, c.before.before.before.well_formed.0.0))
+    (λ c. omega (arith, fits c, c.before.before.before.well_formed.0.0))
+    (λ c. omega (arith, fits c, c.before.before.before.well_formed.0.0, c.before.nodes_offset.ensures.1))
     returns)

@@ -6,7 +6,7 @@ use Rattle.sheet_nodes.proofs.found.Statement.{statement}
 use Rattle.sheet_nodes.proofs.found.Tie as tie
 
 returns : tie.Need-returns
-returns c = let e = c.before.offset.ensures.0 in record { bytes = rw (← e, add-sub_cancel_left) refl; block = refl; address = rw (← e) refl }
+returns c = let e = c.before.offset-start.ensures.0 in record { bytes = rw (← e, add-sub_cancel_left) refl; block = refl; address = rw (← e) refl }
 
-pub found-spec : {M : Type 1} → statement M
-found-spec = tie.close (tie.spec (λ c κs. search rules) (λ c. search rules) (λ c. search rules) (λ c. search rules) (λ c. search rules) returns)
+pub found_spec : {M : Type 1} → statement M
+found_spec = tie.close (tie.spec (λ c κs. search rules) (λ c. search rules) (λ c. search rules) (λ c. search rules) (λ c. search rules) returns)

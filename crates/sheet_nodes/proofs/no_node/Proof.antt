@@ -5,6 +5,6 @@ use Rattle.sheet_calls.specs.Refusals.{no_node}
 use Rattle.sheet_nodes.proofs.no_node.Statement.{statement}
 use Rattle.sheet_nodes.proofs.no_node.Tie as tie
 
-pub no-node-spec : {M : Type 1} → statement M
+pub no_node_spec : {M : Type 1} → statement M
 unfolding no_node
-no-node-spec = tie.close (tie.spec (λ c κs. search rules) (λ c κs. search rules) (λ c. rw (c.before.columns.ensures.0, c.rows.ensures.0) refl))
+no_node_spec = tie.close (tie.spec (λ c κs. search rules) (λ c κs. search rules) (λ c. rw (c.before.columns.ensures.0, c.rows.ensures.0) refl))

@@ -8,14 +8,14 @@ use Rattle.sheet_nodes.proofs.Answers.{node_answer}
 use Rattle.sheet_nodes.proofs.node_refusal.Statement.{statement}
 use Rattle.sheet_nodes.proofs.node_refusal.Tie as tie
 
-no-node-requires : tie.Need-no-node-requires
-no-node-requires c κs = header_there _ (accepts (sym c.before.sheet-refusal.ensures ∙ c.if1.false))
+no-node-requires : tie.Need-no_node-requires
+no-node-requires c κs = header_there _ (accepts (sym c.before.sheet_refusal-refusal.ensures ∙ c.if-refusal-ne0.false))
 
-returns-2 : tie.Need-returns-2
-returns-2 c = let d = c.before.before in node_answer _ _ _ d.before.sheet-refusal.ensures d.if1.false (sym c.before.no_Node.ensures ∙ c.if2.true)
+returns-2 : tie.Need-returns-then-no_node
+returns-2 c = let d = c.before.before in node_answer _ _ _ d.before.sheet_refusal-refusal.ensures d.if-refusal-ne0.false (sym c.before.no_Node.ensures ∙ c.if-no_node.true)
 
-returns-3 : tie.Need-returns-3
-returns-3 c = let d = c.before.before in node_answer _ _ _ d.before.sheet-refusal.ensures d.if1.false (sym c.before.no_Node.ensures ∙ c.if2.false)
+returns-3 : tie.Need-returns
+returns-3 c = let d = c.before.before in node_answer _ _ _ d.before.sheet_refusal-refusal.ensures d.if-refusal-ne0.false (sym c.before.no_Node.ensures ∙ c.if-no_node.false)
 
-pub node-refusal-spec : {M : Type 1} → statement M
-node-refusal-spec = tie.close (tie.spec (λ c κs. search rules) (λ c. refused_by_lem _ _ (lookup_is _ _ _) c.before.sheet-refusal.ensures c.if1.true) no-node-requires returns-2 returns-3)
+pub node_refusal_spec : {M : Type 1} → statement M
+node_refusal_spec = tie.close (tie.spec (λ c κs. search rules) (λ c. refused_by_lem _ _ (lookup_is _ _ _) c.before.sheet_refusal-refusal.ensures c.if-refusal-ne0.true) no-node-requires returns-2 returns-3)

@@ -8,30 +8,30 @@ use Rattle.sheet_nodes.proofs.Answers.{set-refused, set-wrong, set-done}
 use Rattle.sheet_nodes.proofs.set_node.Statement.{statement}
 use Rattle.sheet_nodes.proofs.set_node.Tie as tie
 
-returns : tie.Need-returns
-returns c = set-refused _ _ _ _ c.before.node-refusal.ensures c.if1.true
+returns : tie.Need-returns-then-refusal-ne0
+returns c = set-refused _ _ _ _ c.before.node_refusal-refusal.ensures c.if-refusal-ne0.true
 
-returns-2 : tie.Need-returns-2
+returns-2 : tie.Need-returns-then-wrong_numbers
 returns-2 c =
     let d = c.before.before in
     let s = d.before.before.before.before in
-    set-wrong _ _ _ _ d.before.node-refusal.ensures d.if1.false (back s.ranges.height s.ranges.x-slope s.ranges.y-slope) c.before.wrong-numbers.ensures c.if2.true
+    set-wrong _ _ _ _ d.before.node_refusal-refusal.ensures d.if-refusal-ne0.false (back s.ranges.height s.ranges.x_slope s.ranges.y_slope) c.before.wrong_numbers.ensures c.if-wrong_numbers.true
 
-put-node-requires : tie.Need-put-node-requires
+put-node-requires : tie.Need-put_node-requires
 unfolding wrong_numbers
-put-node-requires c κs = let d = c.before.before.before in (c.before.offset.ensures.1, not-false _ (sym d.before.wrong-numbers.ensures ∙ d.if2.false))
+put-node-requires c κs = let d = c.before.before.before in (c.before.offset-at.ensures.1, not-false _ (sym d.before.wrong_numbers.ensures ∙ d.if-wrong_numbers.false))
 
-returns-3 : tie.Need-returns-3
+returns-3 : tie.Need-returns
 returns-3 c =
     let e = c.before.before.before.before.before.before in
     let d = e.before.before in
     let s = d.before.before.before.before in
-    let v = back s.ranges.height s.ranges.x-slope s.ranges.y-slope in
+    let v = back s.ranges.height s.ranges.x_slope s.ranges.y_slope in
     let o = c.before.before.before.before in
-    set-done _ _ _ _ d.before.node-refusal.ensures d.if1.false v e.before.wrong-numbers.ensures e.if2.false o.offset.ensures.0 c.before.before.put-node.ensures
+    set-done _ _ _ _ d.before.node_refusal-refusal.ensures d.if-refusal-ne0.false v e.before.wrong_numbers.ensures e.if-wrong_numbers.false o.offset-at.ensures.0 c.before.before.put_node.ensures
 
-pub set-node-spec : {M : Type 1} → statement M
-set-node-spec = tie.close (tie.spec
+pub set_node_spec : {M : Type 1} → statement M
+set_node_spec = tie.close (tie.spec
     (λ c κs. search rules) (λ c. search rules) returns
     (λ c κs. search rules) (λ c. search rules) returns-2
     (λ c κs. search rules) put-node-requires (λ c. search rules) returns-3)

@@ -11,7 +11,7 @@ use Rattle.sheet_nodes.proofs.wrong_numbers.Tie as tie
 returns : tie.Need-returns
 unfolding wrong_numbers
 returns c = let s = c.before in
-    ap not c.node-in-range.ensures ∙ ap (λ v. not (node_in v)) (back s.ranges.height s.ranges.x-slope s.ranges.y-slope)
+    ap not c.node_in_range.ensures ∙ ap (λ v. not (node_in v)) (back s.ranges.height s.ranges.x_slope s.ranges.y_slope)
 
-pub wrong-numbers-spec : {M : Type 1} → statement M
-wrong-numbers-spec = tie.close (tie.spec (λ c κs. search rules) returns)
+pub wrong_numbers_spec : {M : Type 1} → statement M
+wrong_numbers_spec = tie.close (tie.spec (λ c κs. search rules) returns)

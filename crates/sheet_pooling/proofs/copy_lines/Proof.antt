@@ -10,47 +10,47 @@ use Rattle.sheet_pooling.proofs.Copied.{byte_of, stored, first_bytes}
 use Rattle.sheet_pooling.proofs.copy_lines.Statement.{statement}
 use Rattle.sheet_pooling.proofs.copy_lines.Tie as tie
 
-abbrev invariant-loop : tie.invariant-loop
+abbrev invariant-loop : tie.invariant-loop-k
 invariant-loop first target₀ count k₀ target k = (k ≤ count) × Replacing (byte_of first) 0 target₀ k target
 
-abbrev decreases-loop : tie.decreases-loop
+abbrev decreases-loop : tie.decreases-loop-k
 decreases-loop first target₀ count k₀ target k = count - k
 
-loop-holds : tie.Need-loop-init invariant-loop decreases-loop
+loop-holds : tie.Need-loop-k-init invariant-loop decreases-loop
 loop-holds c = (search rules, replacing_none)
 
 -- there are so many bytes to copy, and so much room
-room : (c : tie.At-loop invariant-loop decreases-loop) → let a = c.before.before.before.before.args in
-    (c.before.nodes-offset.result ≤ length a.first.now) × (c.before.nodes-offset.result ≤ length a.target.now)
-room c = let (_, h, k) = c.before.before.before.before.requires in rw c.before.nodes-offset.ensures.0 (h, k)
+room : (c : tie.At-loop-k invariant-loop decreases-loop) → let a = c.before.before.before.before.args in
+    (c.before.nodes_offset-count.result ≤ length a.first.now) × (c.before.nodes_offset-count.result ≤ length a.target.now)
+room c = let (_, h, k) = c.before.before.before.before.requires in rw c.before.nodes_offset-count.ensures.0 (h, k)
 
-still : (c : tie.At-loop invariant-loop decreases-loop) → length c.loop.target ≡ length c.before.before.before.before.args.target.now
-still c = replacing_length 1 (λ k. refl) (omega (arith, c.loop.invariant.0, (room c).1)) c.loop.invariant.1
+still : (c : tie.At-loop-k invariant-loop decreases-loop) → length c.loop-k.target ≡ length c.before.before.before.before.args.target.now
+still c = replacing_length 1 (λ k. refl) (omega (arith, c.loop-k.invariant.0, (room c).1)) c.loop-k.invariant.1
 
-shared-slice-read-target : tie.Need-shared-slice-read-target invariant-loop decreases-loop
-shared-slice-read-target c = omega (arith, c.before.loop-test.true, (room c.before.before).0)
+shared-slice-read-target : tie.Need-bounds-first-k invariant-loop decreases-loop
+shared-slice-read-target c = omega (arith, c.before.loop-k-test.true, (room c.before.before).0)
 
-slice-write-target : tie.Need-slice-write-target invariant-loop decreases-loop
-slice-write-target c = omega (arith, c.before.loop-test.true, (room c.before.before).1, still c.before.before)
+slice-write-target : tie.Need-bounds-target-k invariant-loop decreases-loop
+slice-write-target c = omega (arith, c.before.loop-k-test.true, (room c.before.before).1, still c.before.before)
 
-loop-again : tie.Need-loop-preserved invariant-loop decreases-loop
+loop-again : tie.Need-loop-k-preserved invariant-loop decreases-loop
 loop-again c =
     let d = c.before.before in
     let fits = stored _ _ _ (slice-write-target c) in
-    (search rules, replacing_next 1 (λ k. refl) (omega (arith, d.loop.invariant.0, (room d).1)) d.loop.invariant.1 fits)
+    (search rules, replacing_next 1 (λ k. refl) (omega (arith, d.loop-k.invariant.0, (room d).1)) d.loop-k.invariant.1 fits)
 
-same_length : tie.Need-same-length invariant-loop decreases-loop
+same_length : tie.Need-shape_of-target invariant-loop decreases-loop
 same_length c = still c.before
 
 returns : tie.Need-returns invariant-loop decreases-loop
 returns c =
     let d = c.before in
-    let n = d.before.nodes-offset.ensures.0 in
+    let n = d.before.nodes_offset-count.ensures.0 in
     let (_, h, _) = d.before.before.before.before.requires in
-    replacing_all d.loop.invariant.1 (rw n at d.loop.invariant.0) (rw n at c.loop-test.false) ∙ ap (replaced _ 0) (first_bytes _ _ h)
+    replacing_all d.loop-k.invariant.1 (rw n at d.loop-k.invariant.0) (rw n at c.loop-k-test.false) ∙ ap (replaced _ 0) (first_bytes _ _ h)
 
-pub copy-lines-spec : {M : Type 1} → statement M
-copy-lines-spec =
+pub copy_lines_spec : {M : Type 1} → statement M
+copy_lines_spec =
     tie.close
     (tie.spec
     invariant-loop

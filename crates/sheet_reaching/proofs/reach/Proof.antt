@@ -12,39 +12,39 @@ use Rattle.sheet_reaching.proofs.reach.Statement.{statement}
 use Rattle.sheet_reaching.proofs.reach.Tie as tie
 
 -- where the refusal is known
-module _ (c : tie.After-node-refusal) where
+module _ (c : tie.After-node_refusal-refusal) where
   abbrev input : List ℕ
   input = c.before.before.before.before.before.before.before.before.args.input.now
 
-  column : c.before.before.before.wide.result ≡ column_in input
-  column = c.before.before.before.wide.ensures.0
+  column : c.before.before.before.wide-column.result ≡ column_in input
+  column = c.before.before.before.wide-column.ensures.0
 
-  row : c.before.wide2.result ≡ row_in input
-  row = c.before.wide2.ensures.0
+  row : c.before.wide-row.result ≡ row_in input
+  row = c.before.wide-row.ensures.0
 
-  refusal : c.node-refusal.result ≡ reach_refusal input
+  refusal : c.node_refusal-refusal.result ≡ reach_refusal input
   refusal =
-      c.node-refusal.ensures ∙ (λ t. lookup_refusal (sheet_in input) (column t) (row t))
-      ∙ sym (lookup input c.before.before.before.before.before.before.if1.false)
+      c.node_refusal-refusal.ensures ∙ (λ t. lookup_refusal (sheet_in input) (column t) (row t))
+      ∙ sym (lookup input c.before.before.before.before.before.before.if-n-lt2.false)
 
-returns : tie.Need-returns
+returns : tie.Need-returns-then-n-lt2
 unfolding told
-returns c = let input = c.before.before.args.input.now in sym (refused_answer input (sym (short input c.if1.true)) (λ e. omega arith))
+returns c = let input = c.before.before.args.input.now in sym (refused_answer input (sym (short input c.if-n-lt2.true)) (λ e. omega arith))
 
-slice-aggregate-sheet : tie.Need-slice-aggregate-sheet
+slice-aggregate-sheet : tie.Need-slice_bounds-sheet-end
 slice-aggregate-sheet c = sym (length-take-le _ _ (omega arith))
 
-returns-2 : tie.Need-returns-2
+returns-2 : tie.Need-returns-then-refusal-ne0
 unfolding told
-returns-2 c = sym (refused_answer _ (refusal c.before) c.if2.true)
+returns-2 c = sym (refused_answer _ (refusal c.before) c.if-refusal-ne0.true)
 
-returns-3 : tie.Need-returns-3
+returns-3 : tie.Need-returns
 unfolding told
 returns-3 c =
-    let n = c.before.before in rw (c.outermost-lines.ensures, column n, row n) (sym (lines_answer (input n) (sym (refusal n) ∙ c.before.if2.false)))
+    let n = c.before.before in rw (c.outermost_lines.ensures, column n, row n) (sym (lines_answer (input n) (sym (refusal n) ∙ c.before.if-refusal-ne0.false)))
 
-pub reach-spec : {M : Type 1} → statement M
-reach-spec =
+pub reach_spec : {M : Type 1} → statement M
+reach_spec =
     tie.close
     (tie.spec
     returns

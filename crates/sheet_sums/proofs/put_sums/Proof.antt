@@ -8,11 +8,11 @@ use Rattle.sheet_sums.proofs.Numbers.{both_ranged, all_sums}
 use Rattle.sheet_sums.proofs.put_sums.Statement.{statement}
 use Rattle.sheet_sums.proofs.put_sums.Tie as tie
 
-put-from-requires : tie.Need-put-from-requires
+put-from-requires : tie.Need-put_from-requires
 put-from-requires c κs =
     let n = c.before in
     let (p, size) = n.before.before.before.before.before.requires in
-    let (a, b) = both_ranged p n.before.nodes-offset.ensures.0 n.node-count.ensures.0 in
+    let (a, b) = both_ranged p n.before.nodes_offset-start.ensures.0 n.node_count-count.ensures.0 in
     (a, b, omega (arith, a.there, size))
 
 returns : tie.Need-returns
@@ -21,10 +21,10 @@ returns c =
     let put = c.before.before in
     let n = put.before.before in
     let (p, _) = n.before.before.before.before.before.requires in
-    put.put-from.ensures ∙ rw (n.before.nodes-offset.ensures.0, n.node-count.ensures.0, all_sums p) refl
+    put.put_from.ensures ∙ rw (n.before.nodes_offset-start.ensures.0, n.node_count-count.ensures.0, all_sums p) refl
 
-pub put-sums-spec : {M : Type 1} → statement M
-put-sums-spec =
+pub put_sums_spec : {M : Type 1} → statement M
+put_sums_spec =
     tie.close
     (tie.spec
     (λ c κs. header_there _ c.before.before.before.requires.0.first_accepted)

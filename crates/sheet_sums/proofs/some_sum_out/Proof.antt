@@ -6,16 +6,16 @@ use Rattle.sheet_sums.proofs.Numbers.{both_ranged, some_sum}
 use Rattle.sheet_sums.proofs.some_sum_out.Statement.{statement}
 use Rattle.sheet_sums.proofs.some_sum_out.Tie as tie
 
-some-out-from-requires : tie.Need-some-out-from-requires
-some-out-from-requires c κs = both_ranged c.before.before.before.before.requires c.before.nodes-offset.ensures.0 c.node-count.ensures.0
+some-out-from-requires : tie.Need-some_out_from-requires
+some-out-from-requires c κs = both_ranged c.before.before.before.before.requires c.before.nodes_offset.ensures.0 c.node_count.ensures.0
 
 returns : tie.Need-returns
 returns c =
     let d = c.before in
-    c.some-out-from.ensures ∙ rw (d.before.nodes-offset.ensures.0, d.node-count.ensures.0) (some_sum d.before.before.before.before.requires)
+    c.some_out_from.ensures ∙ rw (d.before.nodes_offset.ensures.0, d.node_count.ensures.0) (some_sum d.before.before.before.before.requires)
 
-pub some-sum-out-spec : {M : Type 1} → statement M
-some-sum-out-spec =
+pub some_sum_out_spec : {M : Type 1} → statement M
+some_sum_out_spec =
     tie.close
     (tie.spec
     (λ c κs. header_there _ c.before.before.requires.first_accepted)

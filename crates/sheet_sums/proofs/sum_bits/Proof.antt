@@ -9,9 +9,9 @@ returns : tie.Need-returns
 unfolding sum_at
 returns c =
     let (v, p) = c.before.word.ensures in
-    let (w, q) = c.word2.ensures in
+    let (w, q) = c.word-2.ensures in
     let (_, (h, k)) = c.before.before.before.before.requires in
     rw (v, w) (words_sum (rw v at p) (rw w at q) h k)
 
-pub sum-bits-spec : {M : Type 1} → statement M
-sum-bits-spec = tie.close (tie.spec (λ c κs. search rules) (λ c κs. search rules) (λ c. search rules) returns)
+pub sum_bits_spec : {M : Type 1} → statement M
+sum_bits_spec = tie.close (tie.spec (λ c κs. search rules) (λ c κs. search rules) (λ c. search rules) returns)

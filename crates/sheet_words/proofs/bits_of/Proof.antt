@@ -20,33 +20,33 @@ module _ (c : lts.Then1 reads.Pre reads.Post) where
   sum = stored w32 (low ⊞ literal (pos 65536)) tt
 
   sum_bits : Bits sum.number (bits_of c.before.args.x)
-  sum_bits = negative _ c.before.requires (less low (literal (pos 0)) c.if1.true)
+  sum_bits = negative _ c.before.requires (less low (literal (pos 0)) c.if-x-lt0.true)
 
 module _ (c : lts.Else1 reads.Pre reads.Post) where
   abbrev high : Operand
   high = known w32 c.before.requires tt
 
   high_bits : Bits high.number (bits_of c.before.args.x)
-  high_bits = natural _ c.before.requires (not_less high (literal (pos 0)) c.if1.false)
+  high_bits = natural _ c.before.requires (not_less high (literal (pos 0)) c.if-x-lt0.false)
 
-add-result : tie.Need-overflow-add-result
+add-result : tie.Need-overflow_add-result
 add-result c = asks w32 (low c ⊞ literal (pos 65536)) tt
 
-cast-result : tie.Need-overflow-cast-result
+cast-result : tie.Need-overflow_cast-result
 cast-result c = asks_unsigned w32 (sum c) (sum_bits c).sign tt
 
-cast-result-2 : tie.Need-overflow-cast-result-2
+cast-result-2 : tie.Need-overflow_cast-result-else-x-lt0
 cast-result-2 c = asks_unsigned w32 (high c) (high_bits c).sign tt
 
 -- what is cast is the operand's number, whose bits are known
 cast : (x : Operand) {n : ℕ} → Bits x.number n → (nat_abs x.read ≡ n) × (nat_abs x.read < 65536)
 cast x h = let e = ap nat_abs x.reads ∙ h.value in (e, rw e h.small)
 
-returns : tie.Need-returns
+returns : tie.Need-returns-then-x-lt0
 returns c = cast (sum c) (sum_bits c)
 
-returns-2 : tie.Need-returns-2
+returns-2 : tie.Need-returns-else-x-lt0
 returns-2 c = cast (high c) (high_bits c)
 
-pub bits-of-spec : {M : Type 1} → statement M
-bits-of-spec = tie.close (tie.spec add-result cast-result cast-result-2 returns returns-2)
+pub bits_of_spec : {M : Type 1} → statement M
+bits_of_spec = tie.close (tie.spec add-result cast-result cast-result-2 returns returns-2)

@@ -20,5 +20,5 @@ returns c =
     let e = gives w64 (lowered c) tt ∙ signed_raised c.word.result c.word.ensures.1 in
     (e ∙ ap signed c.word.ensures.0, rw e (signed_within c.word.result c.word.ensures.1))
 
-pub signed-word-spec : {M : Type 1} → statement M
-signed-word-spec = tie.close (tie.spec (λ c κs. search rules) (λ c. search rules) (λ c. search rules) (λ c. asks w64 (lowered c) tt) returns)
+pub signed_word_spec : {M : Type 1} → statement M
+signed_word_spec = tie.close (tie.spec (λ c κs. search rules) (λ c. search rules) (λ c. search rules) (λ c. asks w64 (lowered c) tt) returns)

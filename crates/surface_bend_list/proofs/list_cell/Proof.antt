@@ -24,33 +24,33 @@ use Rattle.surface_bend_list.proofs.list_cell.Tie as tie
 has : (s : tie.Start) → HasCell s.args.sheet.now s.args.column s.args.row
 has s = record { column = s.requires.0.1.has; row = s.requires.0.2.has }
 
-inside : (c : tie.After-pixel-in) → PixelInCell c.pixel-in.result
-inside c = let p = c.before.before.requires.0 in rw c.pixel-in.ensures (pixel_inside (mesh _ p.0) p.1 p.2)
+inside : (c : tie.After-pixel_in-p) → PixelInCell c.pixel_in-p.result
+inside c = let p = c.before.before.requires.0 in rw c.pixel_in-p.ensures (pixel_inside (mesh _ p.0) p.1 p.2)
 
 -- its corner numbers, and what is listed of it
-module _ (c : tie.After-corner-numbers) where
+module _ (c : tie.After-corner_numbers-n) where
   abbrev s : tie.Start
   s = c.before.before.before
 
-  numbers : corners c.corner-numbers.result ≡ corner_numbers (cell_of s.args.sheet.now s.args.column s.args.row) (nodes_of s.args.sheet.now s.args.column s.args.row)
+  numbers : corners c.corner_numbers-n.result ≡ corner_numbers (cell_of s.args.sheet.now s.args.column s.args.row) (nodes_of s.args.sheet.now s.args.column s.args.row)
   unfolding pixel_in cell_of
-  numbers = held _ c.corner-numbers.ensures
-      ∙ ap (λ (p : Pixel). corner_numbers (cell p.width p.height) (nodes_of s.args.sheet.now s.args.column s.args.row)) c.before.pixel-in.ensures
+  numbers = held _ c.corner_numbers-n.ensures
+      ∙ ap (λ (p : Pixel). corner_numbers (cell p.width p.height) (nodes_of s.args.sheet.now s.args.column s.args.row)) c.before.pixel_in-p.ensures
 
-  listed : cell_bends (corners c.corner-numbers.result) c.before.pixel-in.result ≡ bends_in s.args.sheet.now s.args.x s.args.y s.args.row s.args.column
-  listed = (λ t. cell_bends (numbers t) (c.before.pixel-in.ensures t)) ∙ sym (cell_is s.args.sheet.now s.pre.0.1 s.pre.0.2)
+  listed : cell_bends (corners c.corner_numbers-n.result) c.before.pixel_in-p.result ≡ bends_in s.args.sheet.now s.args.x s.args.y s.args.row s.args.column
+  listed = (λ t. cell_bends (numbers t) (c.before.pixel_in-p.ensures t)) ∙ sym (cell_is s.args.sheet.now s.requires.0.1 s.requires.0.2)
 
-corner-numbers-requires : tie.Need-corner-numbers-requires
+corner-numbers-requires : tie.Need-corner_numbers-n-requires
 corner-numbers-requires c κs = let s = c.before.before in (s.requires.0.0, has s, (inside c).width, (inside c).height)
 
-cell-bends-requires : tie.Need-cell-bends-requires
+cell-bends-requires : tie.Need-cell_bends-requires
 cell-bends-requires c κs =
     let n = c.before in (rw (numbers n) (numbers_within _ (s n).requires.0.0 _ _ (has (s n))), inside n.before, rw (listed n) (s n).requires.1)
 
 returns : tie.Need-returns
 returns c =
     let b = c.before in let n = b.before.before in let a = (s n).args in
-    (b.cell-bends.ensures.0 ∙ ap (λ l. a.at + length l) (listed n), b.cell-bends.ensures.1 ∙ ap (λ l. sets a.list.now a.at l) (listed n))
+    (b.cell_bends.ensures.0 ∙ ap (λ l. a.at + length l) (listed n), b.cell_bends.ensures.1 ∙ ap (λ l. sets a.list-1.now a.at l) (listed n))
 
-pub list-cell-spec : {M : Type 1} → statement M
-list-cell-spec = tie.close (tie.spec (λ c κs. let p = c.before.requires.0 in (mesh _ p.0, p.1, p.2)) corner-numbers-requires cell-bends-requires (λ c. search rules) returns)
+pub list_cell_spec : {M : Type 1} → statement M
+list_cell_spec = tie.close (tie.spec (λ c κs. let p = c.before.requires.0 in (mesh _ p.0, p.1, p.2)) corner-numbers-requires cell-bends-requires (λ c. search rules) returns)

@@ -17,11 +17,11 @@ use Rattle.surface_bend_list.proofs.Stored.{begins, next_fits, ends}
 use Rattle.surface_bend_list.proofs.list_row.Statement.{statement}
 use Rattle.surface_bend_list.proofs.list_row.Tie as tie
 
-abbrev invariant-loop : tie.invariant-loop
+abbrev invariant-loop : tie.invariant-loop-column
 invariant-loop sheet cells row x y list₀ at column₀ end₀ list column end =
     (cells.lowest ≤ column) × (column ≤ suc cells.highest) × Stored list₀ at (in_turn column (bends_in sheet x y row)) list end
 
-abbrev decreases-loop : tie.decreases-loop
+abbrev decreases-loop : tie.decreases-loop-column
 decreases-loop sheet cells row x y list₀ at column₀ end₀ list column end = suc cells.highest - column
 
 -- the columns, and how many there can be
@@ -30,9 +30,9 @@ module _ (s : tie.Start invariant-loop decreases-loop) where
   cells_are = s.requires.0.2
 
   abbrev there : suc s.args.cells.highest < columns s.args.sheet.now
-  there = rw cells_are (columns_there _ s.pre.0.0 _ _ s.pre.0.1)
+  there = rw cells_are (columns_there _ s.requires.0.0 _ _ s.requires.0.1)
 
-loop-holds : tie.Need-loop-init invariant-loop decreases-loop
+loop-holds : tie.Need-loop-column-init invariant-loop decreases-loop
 loop-holds c =
     let s = c.before in let p = s.requires.0 in (
       omega arith,
@@ -40,38 +40,38 @@ loop-holds c =
       begins _ _ (λ i h. before_column _ _ _ p.0 p.1 _ i (rw (cells_are s) at h)),
     )
 
-list-cell-requires : tie.Need-list-cell-requires invariant-loop decreases-loop
+list-cell-requires : tie.Need-list_cell-end-requires invariant-loop decreases-loop
 unfolding bends_in_row
 list-cell-requires c κs =
-    let t = c.before in let l = t.before.before in let s = l.before.before in let v = l.loop.invariant in let p = s.requires.0 in (
-      (p.0, column_at_lem _ _ _ p.0 p.1 _ (rw (cells_are s) at v.0) (rw (cells_are s) at t.if1.true), p.3),
-      next_fits _ _ v.2 (columns s.args.sheet.now - 1) (omega (arith, t.if1.true, there s)) s.requires.1,
+    let t = c.before in let l = t.before.before in let s = l.before.before in let v = l.loop-column.invariant in let p = s.requires.0 in (
+      (p.0, column_at_lem _ _ _ p.0 p.1 _ (rw (cells_are s) at v.0) (rw (cells_are s) at t.loop-column-test.true), p.3),
+      next_fits _ _ v.2 (columns s.args.sheet.now - 1) (omega (arith, t.loop-column-test.true, there s)) s.requires.1,
     )
 
-add-column : tie.Need-overflow-add-column invariant-loop decreases-loop
+add-column : tie.Need-overflow_add-column invariant-loop decreases-loop
 add-column c =
     let t = c.before.before.before in let s = t.before.before.before.before in
-    omega (arith, t.if1.true, there s, (sound _ s.requires.0.0).many_columns)
+    omega (arith, t.loop-column-test.true, there s, (sound _ s.requires.0.0).many_columns)
 
-loop-less : tie.Need-loop-smaller invariant-loop decreases-loop
-loop-less c = omega (arith, c.before.before.before.if1.true)
+loop-less : tie.Need-loop-column-smaller invariant-loop decreases-loop
+loop-less c = omega (arith, c.before.before.before.loop-column-test.true)
 
-loop-again : tie.Need-loop-preserved invariant-loop decreases-loop
+loop-again : tie.Need-loop-column-preserved invariant-loop decreases-loop
 unfolding in_turn
 loop-again c =
-    let b = c.before in let t = b.before.before in let l = t.before.before in let v = l.loop.invariant in
-    (omega (arith, v.0), omega (arith, t.if1.true), rw (add-one l.loop.column) (goes_on v.2 _ b.list-cell.ensures))
+    let b = c.before in let t = b.before.before in let l = t.before.before in let v = l.loop-column.invariant in
+    (omega (arith, v.0), omega (arith, t.loop-column-test.true), rw (add-one l.loop-column.column) (goes_on v.2 _ b.list_cell-end.ensures))
 
-same_length : tie.Need-same-length invariant-loop decreases-loop
-same_length c = same_size c.before.before.loop.invariant.2
+same_length : tie.Need-shape_of-list invariant-loop decreases-loop
+same_length c = same_size c.before.before.loop-column.invariant.2
 
 returns : tie.Need-returns invariant-loop decreases-loop
 unfolding bends_in_row
 returns c =
-    let l = c.before.before in let s = l.before.before in let v = l.loop.invariant in let p = s.requires.0 in
+    let l = c.before.before in let s = l.before.before in let v = l.loop-column.invariant in let p = s.requires.0 in
     let e = ends _ _ v.2 (columns s.args.sheet.now - 1) (omega (arith, v.1, there s))
-    (λ i h m. behind_column _ _ _ p.0 p.1 _ i (rw (cells_are s) at (let far : s.args.cells.highest < i = omega (arith, c.if1.false) in far))) in
+    (λ i h m. behind_column _ _ _ p.0 p.1 _ i (rw (cells_are s) at (let far : s.args.cells.highest < i = omega (arith, c.loop-column-test.false) in far))) in
     (e.behind, e.holds)
 
-pub list-row-spec : {M : Type 1} → statement M
-list-row-spec = tie.close (tie.spec invariant-loop decreases-loop loop-holds list-cell-requires add-column loop-less loop-again same_length returns)
+pub list_row_spec : {M : Type 1} → statement M
+list_row_spec = tie.close (tie.spec invariant-loop decreases-loop loop-holds list-cell-requires add-column loop-less loop-again same_length returns)

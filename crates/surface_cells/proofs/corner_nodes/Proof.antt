@@ -30,10 +30,10 @@ returns c =
     let first = second.before in
     let a = first.before.before.args in
     rw (← add-one a.column, ← add-one a.row)
-    (λ t. first.node-numbers.ensures t ∷ second.node-numbers2.ensures t ∷ third.node-numbers3.ensures t ∷ c.node-numbers4.ensures t ∷ [])
+    (λ t. first.node_numbers.ensures t ∷ second.node_numbers-2.ensures t ∷ third.node_numbers-3.ensures t ∷ c.node_numbers-4.ensures t ∷ [])
 
-pub corner-nodes-spec : {M : Type 1} → statement M
-corner-nodes-spec =
+pub corner_nodes_spec : {M : Type 1} → statement M
+corner_nodes_spec =
     tie.close
     (tie.spec
     (λ c κs. let there = nodes_there _ c.before.requires.0 in search rules)

@@ -9,15 +9,15 @@ use Rattle.surface_of_sheet.proofs.Cells.{measured}
 use Rattle.surface_cells.proofs.corner_numbers.Statement.{statement}
 use Rattle.surface_cells.proofs.corner_numbers.Tie as tie
 
-corner-numbers-requires : tie.Need-corner-numbers-requires
+corner-numbers-requires : tie.Need-corner_numbers-requires
 corner-numbers-requires c κs =
     let p = c.before.before.requires in
-    (subst⁻¹ Measured (held _ c.corner-nodes.ensures) (measured _ p.0 _ _ p.1), p.2, p.3)
+    (subst⁻¹ Measured (held _ c.corner_nodes.ensures) (measured _ p.0 _ _ p.1), p.2, p.3)
 
 returns : tie.Need-returns
 returns c =
     let a = c.before.before.before.args in
-    c.corner-numbers.ensures ∙ ap (λ (m : Nodes). arrays (corner_numbers (cell a.width a.height) m)) (held _ c.before.corner-nodes.ensures)
+    c.corner_numbers.ensures ∙ ap (λ (m : Nodes). arrays (corner_numbers (cell a.width a.height) m)) (held _ c.before.corner_nodes.ensures)
 
-pub corner-numbers-spec : {M : Type 1} → statement M
-corner-numbers-spec = tie.close (tie.spec (λ c κs. search rules) corner-numbers-requires returns)
+pub corner_numbers_spec : {M : Type 1} → statement M
+corner_numbers_spec = tie.close (tie.spec (λ c κs. search rules) corner-numbers-requires returns)

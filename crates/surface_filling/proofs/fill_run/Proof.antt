@@ -7,15 +7,15 @@ use Rattle.surface_of_sheet.proofs.Runs.{filled_steps, unfilled_is}
 use Rattle.surface_filling.proofs.fill_run.Statement.{statement}
 use Rattle.surface_filling.proofs.fill_run.Tie as tie
 
-returns : tie.Need-returns
-returns c = let e = c.before.run-refusal.ensures in (e, sym (unfilled_is _ _ _ _ (λ z. c.if1.true (e ∙ z))))
+returns : tie.Need-returns-then-refusal-ne0
+returns c = let e = c.before.run_refusal-refusal.ensures in (e, sym (unfilled_is _ _ _ _ (λ z. c.if-refusal-ne0.true (e ∙ z))))
 
 run-requires : tie.Need-run-requires
-run-requires c κs = (run_held _ _ _ _ (sym c.before.before.run-refusal.ensures ∙ c.before.if1.false), omega arith)
+run-requires c κs = (run_held _ _ _ _ (sym c.before.before.run_refusal-refusal.ensures ∙ c.before.if-refusal-ne0.false), omega arith)
 
-returns-2 : tie.Need-returns-2
-returns-2 c = let g = c.before in let e = g.before.before in let z = sym e.before.run-refusal.ensures ∙ e.if1.false in
+returns-2 : tie.Need-returns
+returns-2 c = let g = c.before in let e = g.before.before in let z = sym e.before.run_refusal-refusal.ensures ∙ e.if-refusal-ne0.false in
     (sym z, g.run.ensures ∙ sym (filled_steps _ _ _ _ z))
 
-pub fill-run-spec : {M : Type 1} → statement M
-fill-run-spec = tie.close (tie.spec (λ c κs. search rules) returns run-requires (λ c. search rules) returns-2)
+pub fill_run_spec : {M : Type 1} → statement M
+fill_run_spec = tie.close (tie.spec (λ c κs. search rules) returns run-requires (λ c. search rules) returns-2)

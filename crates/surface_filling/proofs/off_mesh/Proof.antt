@@ -11,31 +11,31 @@ use Rattle.surface_filling.proofs.off_mesh.Statement.{statement}
 use Rattle.surface_filling.proofs.off_mesh.Tie as tie
 
 -- the first pixel is one of the mesh
-on-mesh : (c : tie.Else1) → let a = c.before.before.before.args in outside a.sheet.now a.x a.y ≡ false
-on-mesh c = sym c.before.outside.ensures ∙ c.if1.false
+on-mesh : (c : tie.Else-outside) → let a = c.before.before.before.args in outside a.sheet.now a.x a.y ≡ false
+on-mesh c = sym c.before.outside.ensures ∙ c.if-outside.false
 
 -- the last pixel fits 32 bits
-add-outside : tie.Need-overflow-add-outside
+add-outside : tie.Need-overflow_add-x
 add-outside c = let o = c.before.before in let s = o.before.before.before in
     let near = not_far s.args.sheet.now s.requires s.args.x s.args.y (on-mesh o) in search rules
 
 -- one beyond a row's pixels lies outside
-returns-3 : tie.Need-returns-3
+returns-3 : tie.Need-returns-then-count-gt-LONGEST_ROW
 returns-3 c = let e = c.before in let o = e.before in let s = o.before.before.before in
-    sym (far_off s.args.sheet.now s.requires (s.args.x + (s.args.count - 1)) s.args.y (omega (arith, c.if3.true)))
-    ∙ last_off _ _ _ _ (on-mesh o) e.if2.false
+    sym (far_off s.args.sheet.now s.requires (s.args.x + (s.args.count - 1)) s.args.y (omega (arith, c.if-count-gt-LONGEST_ROW.true)))
+    ∙ last_off _ _ _ _ (on-mesh o) e.if-count-eq0.false
 
-returns-4 : tie.Need-returns-4
+returns-4 : tie.Need-returns
 returns-4 c = let e = c.before.before in let o = e.before in let a = o.before.before.before.args in
-    rw (c.outside2.ensures, ← last_off a.sheet.now a.x a.y a.count (on-mesh o) e.if2.false) refl
+    rw (c.outside-2.ensures, ← last_off a.sheet.now a.x a.y a.count (on-mesh o) e.if-count-eq0.false) refl
 
-pub off-mesh-spec : {M : Type 1} → statement M
-off-mesh-spec =
+pub off_mesh_spec : {M : Type 1} → statement M
+off_mesh_spec =
     tie.close
     (tie.spec
     (λ c κs. mesh _ c.before.requires)
-    (λ c. first_off _ _ _ _ (sym c.before.outside.ensures ∙ c.if1.true))
-    (λ c. no_last _ _ _ _ (on-mesh c.before) c.if2.true)
+    (λ c. first_off _ _ _ _ (sym c.before.outside.ensures ∙ c.if-outside.true))
+    (λ c. no_last _ _ _ _ (on-mesh c.before) c.if-count-eq0.true)
     returns-3
     (λ c. search rules)
     (λ c. search rules)

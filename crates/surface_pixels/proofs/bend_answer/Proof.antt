@@ -11,14 +11,14 @@ use Rattle.surface_answers.specs.Answers.{answered, FitsFloat}
 use Rattle.surface_pixels.proofs.bend_answer.Statement.{statement}
 use Rattle.surface_pixels.proofs.bend_answer.Tie as tie
 
-is-xx : (c : tie.After-new) → let a = c.before.before.before.before.args in c.new.result.xx ≡ bend_xxof (pixel_cell a.p) (halves a.k) (pixel_point a.p)
-is-xx c = let d = c.before.before.before in c.new.ensures.0 ∙ unchanged w64 d.bend-xx-of.type-inv ∙ d.bend-xx-of.ensures
+is-xx : (c : tie.After-new-reading) → let a = c.before.before.before.before.args in c.new-reading.result.xx ≡ bend_xxof (pixel_cell a.p) (halves a.k) (pixel_point a.p)
+is-xx c = let d = c.before.before.before in c.new-reading.ensures.0 ∙ unchanged w64 d.bend_xx_of.type_inv ∙ d.bend_xx_of.ensures
 
-is-xy : (c : tie.After-new) → let a = c.before.before.before.before.args in c.new.result.xy ≡ bend_xyof (pixel_cell a.p) (halves a.k) (pixel_point a.p)
-is-xy c = let d = c.before.before in c.new.ensures.1 ∙ unchanged w64 d.bend-xy-of.type-inv ∙ d.bend-xy-of.ensures
+is-xy : (c : tie.After-new-reading) → let a = c.before.before.before.before.args in c.new-reading.result.xy ≡ bend_xyof (pixel_cell a.p) (halves a.k) (pixel_point a.p)
+is-xy c = let d = c.before.before in c.new-reading.ensures.1 ∙ unchanged w64 d.bend_xy_of.type_inv ∙ d.bend_xy_of.ensures
 
-is-yy : (c : tie.After-new) → let a = c.before.before.before.before.args in c.new.result.yy ≡ bend_yyof (pixel_cell a.p) (halves a.k) (pixel_point a.p)
-is-yy c = let d = c.before in c.new.ensures.2 ∙ unchanged w64 d.bend-yy-of.type-inv ∙ d.bend-yy-of.ensures
+is-yy : (c : tie.After-new-reading) → let a = c.before.before.before.before.args in c.new-reading.result.yy ≡ bend_yyof (pixel_cell a.p) (halves a.k) (pixel_point a.p)
+is-yy c = let d = c.before in c.new-reading.ensures.2 ∙ unchanged w64 d.bend_yy_of.type_inv ∙ d.bend_yy_of.ensures
 
 answer-requires : tie.Need-answer-requires
 answer-requires c κs =
@@ -27,8 +27,8 @@ answer-requires c κs =
 returns : tie.Need-returns
 returns c = c.answer.ensures ∙ (λ t. answered 2 (is-xx c.before t ∷ is-xy c.before t ∷ is-yy c.before t ∷ []))
 
-pub bend-answer-spec : {M : Type 1} → statement M
-bend-answer-spec =
+pub bend_answer_spec : {M : Type 1} → statement M
+bend_answer_spec =
     tie.close
     (tie.spec
     (λ c κs. search rules)

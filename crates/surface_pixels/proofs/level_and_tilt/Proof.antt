@@ -12,20 +12,20 @@ use Rattle.surface_pixels.proofs.Cubics.{Evaluated, same, evaluated}
 use Rattle.surface_pixels.proofs.level_and_tilt.Statement.{statement}
 use Rattle.surface_pixels.proofs.level_and_tilt.Tie as tie
 
-evaluates : (c : tie.After-p) → let s = c.before.before.before.before in Evaluated s.args.sheet.now s.args.x s.args.y c.before.before.locate.result
-evaluates c = let d = c.before.before in let h = d.before.before.requires in evaluated _ _ _ h.0 h.1 d.locate.ensures
+evaluates : (c : tie.After-p-1) → let s = c.before.before.before.before in Evaluated s.args.sheet.now s.args.x s.args.y c.before.before.locate-cubic.result
+evaluates c = let d = c.before.before in let h = d.before.before.requires in evaluated _ _ _ h.0 h.1 d.locate-cubic.ensures
 
-asked : (c : tie.After-p) → let r = c.before.before.locate.result in Sized r.coefficients × PixelInCell r.pixel
+asked : (c : tie.After-p-1) → let r = c.before.before.locate-cubic.result in Sized r.coefficients × PixelInCell r.pixel
 asked c = let e = evaluates c in (e.sized, e.inside)
 
 returns : tie.Need-returns
 unfolding level tilt_x tilt_y level_at tilt_xat tilt_yat
 returns c =
     let x = c.before in let l = x.before in let e = evaluates l.before in
-    let level = unchanged w64 l.level-of.type-inv ∙ l.level-of.ensures ∙ same e level_of in
-    let tilt-x = unchanged w64 x.tilt-x-of.type-inv ∙ x.tilt-x-of.ensures ∙ same e tilt_xof in
-    let tilt-y = unchanged w64 c.tilt-y-of.type-inv ∙ c.tilt-y-of.ensures ∙ same e tilt_yof in
+    let level = unchanged w64 l.level_of.type_inv ∙ l.level_of.ensures ∙ same e level_of in
+    let tilt-x = unchanged w64 x.tilt_x_of.type_inv ∙ x.tilt_x_of.ensures ∙ same e tilt_xof in
+    let tilt-y = unchanged w64 c.tilt_y_of.type_inv ∙ c.tilt_y_of.ensures ∙ same e tilt_yof in
     λ t. level t ∷ tilt-x t ∷ tilt-y t ∷ []
 
-pub level-and-tilt-spec : {M : Type 1} → statement M
-level-and-tilt-spec = tie.close (tie.spec (λ c κs. search rules) (λ c κs. asked c) (λ c κs. asked c.before) (λ c κs. asked c.before.before) returns)
+pub level_and_tilt_spec : {M : Type 1} → statement M
+level_and_tilt_spec = tie.close (tie.spec (λ c κs. search rules) (λ c κs. asked c) (λ c κs. asked c.before) (λ c κs. asked c.before.before) returns)

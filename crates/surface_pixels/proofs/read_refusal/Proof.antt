@@ -12,25 +12,25 @@ use Rattle.surface_pixels.proofs.read_refusal.Statement.{statement}
 use Rattle.surface_pixels.proofs.read_refusal.Tie as tie
 
 -- the sheet is accepted
-accepted : (d : tie.Else1) → let a = d.before.before.before.args in sheet_refusal a.sheet.now ≡ 0
-accepted d = sym d.before.sheet-refusal.ensures ∙ d.if1.false
+accepted : (d : tie.Else-refusal-ne0) → let a = d.before.before.before.args in sheet_refusal a.sheet.now ≡ 0
+accepted d = sym d.before.sheet_refusal-refusal.ensures ∙ d.if-refusal-ne0.false
 
 -- the pixel is one of the mesh
-on-mesh : (o : tie.Else2) → let a = o.before.before.before.before.before.args in false ≡ outside a.sheet.now a.x a.y
-on-mesh o = sym o.if2.false ∙ o.before.outside.ensures
+on-mesh : (o : tie.Else-outside) → let a = o.before.before.before.before.before.args in false ≡ outside a.sheet.now a.x a.y
+on-mesh o = sym o.if-outside.false ∙ o.before.outside.ensures
 
 outside-requires : tie.Need-outside-requires
 outside-requires c κs = mesh _ (accepts (accepted c))
 
-returns-2 : tie.Need-returns-2
-returns-2 c = pixel_answer _ _ _ _ (accepted c.before.before) (sym c.if2.true ∙ c.before.outside.ensures) refl
+returns-2 : tie.Need-returns-then-outside
+returns-2 c = pixel_answer _ _ _ _ (accepted c.before.before) (sym c.if-outside.true ∙ c.before.outside.ensures) refl
 
-returns-3 : tie.Need-returns-3
-returns-3 c = pixel_answer _ _ _ _ (accepted c.before.before.before) (on-mesh c.before) (sym (lt-ltb _ _ c.if3.true))
+returns-3 : tie.Need-returns-then-kind-gt2
+returns-3 c = pixel_answer _ _ _ _ (accepted c.before.before.before) (on-mesh c.before) (sym (lt-ltb _ _ c.if-kind-gt2.true))
 
-returns-4 : tie.Need-returns-4
-returns-4 c = pixel_answer _ _ _ _ (accepted c.before.before.before) (on-mesh c.before) (sym (le-ltb _ _ c.if3.false))
+returns-4 : tie.Need-returns
+returns-4 c = pixel_answer _ _ _ _ (accepted c.before.before.before) (on-mesh c.before) (sym (le-ltb _ _ c.if-kind-gt2.false))
 
-pub read-refusal-spec : {M : Type 1} → statement M
-read-refusal-spec =
-    tie.close (tie.spec (λ c κs. search rules) (λ c. refused_by_lem _ _ (reading_is _ _ _ _) c.before.sheet-refusal.ensures c.if1.true) outside-requires returns-2 returns-3 returns-4)
+pub read_refusal_spec : {M : Type 1} → statement M
+read_refusal_spec =
+    tie.close (tie.spec (λ c κs. search rules) (λ c. refused_by_lem _ _ (reading_is _ _ _ _) c.before.sheet_refusal-refusal.ensures c.if-refusal-ne0.true) outside-requires returns-2 returns-3 returns-4)

@@ -15,44 +15,44 @@ use Rattle.surface_pixels.proofs.reading.Tie as tie
 held : (s : tie.Start) → HasPixel s.args.sheet.now s.args.x s.args.y s.args.kind
 held s = reading_held _ _ _ _ s.requires
 
-evaluates : (c : tie.After-p) → let s = c.before.before.before.before in Evaluated s.args.sheet.now s.args.x s.args.y c.before.before.locate.result
-evaluates c = let d = c.before.before in let h = held d.before.before in evaluated _ _ _ h.accepted h.inside d.locate.ensures
+evaluates : (c : tie.After-p-1) → let s = c.before.before.before.before in Evaluated s.args.sheet.now s.args.x s.args.y c.before.before.locate-cubic.result
+evaluates c = let d = c.before.before in let h = held d.before.before in evaluated _ _ _ h.accepted h.inside d.locate-cubic.ensures
 
-level-answer-requires : tie.Need-level-answer-requires
+level-answer-requires : tie.Need-level_answer-requires
 unfolding level level_at
 level-answer-requires c κs = let d = c.before in let e = evaluates d in let h = held d.before.before.before.before in
     (e.sized, e.inside, subst⁻¹ FitsFloat (same e level_of) (small_level _ _ _ h.accepted h.inside))
 
-returns : tie.Need-returns
+returns : tie.Need-returns-then-kind-eq0
 unfolding level level_at numbers
 returns c = let i = c.before in let e = evaluates i.before in
-    rw i.if1.true (c.level-answer.ensures ∙ ap (λ z. answered 0 (z ∷ [])) (same e level_of))
+    rw i.if-kind-eq0.true (c.level_answer.ensures ∙ ap (λ z. answered 0 (z ∷ [])) (same e level_of))
 
-tilt-answer-requires : tie.Need-tilt-answer-requires
+tilt-answer-requires : tie.Need-tilt_answer-requires
 unfolding tilt_x tilt_y tilt_xat tilt_yat
 tilt-answer-requires c κs = let d = c.before.before in let e = evaluates d in let h = held d.before.before.before.before in
     let t = small_tilts _ _ _ h.accepted h.inside in
     (e.sized, e.inside, subst⁻¹ FitsFloat (same e tilt_xof) t.0, subst⁻¹ FitsFloat (same e tilt_yof) t.1)
 
-returns-2 : tie.Need-returns-2
+returns-2 : tie.Need-returns-then-kind-eq1
 unfolding tilt_x tilt_y tilt_xat tilt_yat numbers
 returns-2 c = let i = c.before in let e = evaluates i.before.before in
-    rw i.if2.true (c.tilt-answer.ensures ∙ ap₂ (λ z w. answered 1 (z ∷ w ∷ [])) (same e tilt_xof) (same e tilt_yof))
+    rw i.if-kind-eq1.true (c.tilt_answer.ensures ∙ ap₂ (λ z w. answered 1 (z ∷ w ∷ [])) (same e tilt_xof) (same e tilt_yof))
 
-bend-answer-requires : tie.Need-bend-answer-requires
+bend-answer-requires : tie.Need-bend_answer-requires
 unfolding bend_xx bend_xy bend_yy bend_xxat bend_xyat bend_yyat
 bend-answer-requires c κs = let d = c.before.before in let e = evaluates d in let h = held d.before.before.before.before in
     let b = small_bends _ _ _ h.accepted h.inside in
     (e.sized, e.inside, subst⁻¹ FitsFloat (same e bend_xxof) b.0, subst⁻¹ FitsFloat (same e bend_xyof) b.1, subst⁻¹ FitsFloat (same e bend_yyof) b.2)
 
-returns-3 : tie.Need-returns-3
+returns-3 : tie.Need-returns
 unfolding bend_xx bend_xy bend_yy bend_xxat bend_xyat bend_yyat
 returns-3 c = let i = c.before in let e = evaluates i.before.before in
-    c.bend-answer.ensures ∙ (λ t. answered 2 (same e bend_xxof t ∷ same e bend_xyof t ∷ same e bend_yyof t ∷ []))
-    ∙ kind_bend _ _ _ _ i.before.if1.false i.if2.false
+    c.bend_answer.ensures ∙ (λ t. answered 2 (same e bend_xxof t ∷ same e bend_xyof t ∷ same e bend_yyof t ∷ []))
+    ∙ kind_bend _ _ _ _ i.before.if-kind-eq0.false i.if-kind-eq1.false
 
-pub reading-spec : {M : Type 1} → statement M
-reading-spec =
+pub reading_spec : {M : Type 1} → statement M
+reading_spec =
     tie.close
     (tie.spec
     (λ c κs. let h = held c.before in (h.accepted, h.inside))

@@ -11,17 +11,17 @@ use Rattle.surface_answers.specs.Answers.{answered, FitsFloat}
 use Rattle.surface_pixels.proofs.tilt_answer.Statement.{statement}
 use Rattle.surface_pixels.proofs.tilt_answer.Tie as tie
 
-is_x : (c : tie.After-new) → let a = c.before.before.before.args in c.new.result.x ≡ tilt_xof (pixel_cell a.p) (halves a.k) (pixel_point a.p)
-is_x c = c.new.ensures.0 ∙ unchanged w64 c.before.before.tilt-x-of.type-inv ∙ c.before.before.tilt-x-of.ensures
+is_x : (c : tie.After-new-reading) → let a = c.before.before.before.args in c.new-reading.result.x ≡ tilt_xof (pixel_cell a.p) (halves a.k) (pixel_point a.p)
+is_x c = c.new-reading.ensures.0 ∙ unchanged w64 c.before.before.tilt_x_of.type_inv ∙ c.before.before.tilt_x_of.ensures
 
-is_y : (c : tie.After-new) → let a = c.before.before.before.args in c.new.result.y ≡ tilt_yof (pixel_cell a.p) (halves a.k) (pixel_point a.p)
-is_y c = c.new.ensures.1 ∙ unchanged w64 c.before.tilt-y-of.type-inv ∙ c.before.tilt-y-of.ensures
+is_y : (c : tie.After-new-reading) → let a = c.before.before.before.args in c.new-reading.result.y ≡ tilt_yof (pixel_cell a.p) (halves a.k) (pixel_point a.p)
+is_y c = c.new-reading.ensures.1 ∙ unchanged w64 c.before.tilt_y_of.type_inv ∙ c.before.tilt_y_of.ensures
 
 answer-requires : tie.Need-answer-requires
 answer-requires c κs = let p = c.before.before.before.requires in (subst⁻¹ FitsFloat (is_x c) p.2, subst⁻¹ FitsFloat (is_y c) p.3)
 
-pub tilt-answer-spec : {M : Type 1} → statement M
-tilt-answer-spec =
+pub tilt_answer_spec : {M : Type 1} → statement M
+tilt_answer_spec =
     tie.close
     (tie.spec
     (λ c κs. search rules)

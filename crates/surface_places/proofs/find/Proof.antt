@@ -3,20 +3,20 @@ use Rattle.surface_places.proofs.Axes.{found_is, header_read, x_between, y_betwe
 use Rattle.surface_places.proofs.find.Statement.{statement}
 use Rattle.surface_places.proofs.find.Tie as tie
 
-cells-along-requires : tie.Need-cells-along-requires
+cells-along-requires : tie.Need-cells_along-requires
 cells-along-requires c κs = let p = c.before.before.requires in rw c.columns.ensures.0 (p.0.across, x_between _ _ _ p.1)
 
-cells-along-requires-2 : tie.Need-cells-along-requires-2
+cells-along-requires-2 : tie.Need-cells_along-requires-2
 cells-along-requires-2 c κs =
     let p = c.before.before.before.before.before.requires in
-    rw (c.rows.ensures.0, c.before.y-lines-offset.ensures.0) (p.0.down, y_between _ _ _ p.1)
+    rw (c.rows.ensures.0, c.before.y_lines_offset.ensures.0) (p.0.down, y_between _ _ _ p.1)
 
 returns : tie.Need-returns
 returns c =
     let r = c.before in
     let y = r.before in
     let x = y.before in
-    rw (c.cells-along2.ensures, r.rows.ensures.0, y.y-lines-offset.ensures.0, x.cells-along.ensures, x.before.columns.ensures.0)
+    rw (c.cells_along-2.ensures, r.rows.ensures.0, y.y_lines_offset.ensures.0, x.cells_along.ensures, x.before.columns.ensures.0)
     (found_is _ _ _)
 
 pub find_spec : {M : Type 1} → statement M

@@ -10,18 +10,18 @@ use Rattle.surface_places.proofs.in_cell.Statement.{statement}
 use Rattle.surface_places.proofs.in_cell.Tie as tie
 
 -- what is read last is the cell's other line
-after : (c : tie.After-line-from2) → let a = c.before.before.before.args in c.line-from2.result ≡ line_from a.sheet.now a.start (suc a.cell)
-after c = let a = c.before.before.before.args in c.line-from2.ensures.0 ∙ ap (line_from a.sheet.now a.start) (add-one a.cell)
+after : (c : tie.After-line_from-after) → let a = c.before.before.before.args in c.line_from-after.result ≡ line_from a.sheet.now a.start (suc a.cell)
+after c = let a = c.before.before.before.args in c.line_from-after.ensures.0 ∙ ap (line_from a.sheet.now a.start) (add-one a.cell)
 
-sub-t9 : tie.Need-overflow-sub-t9
-sub-t9 c = let p = c.before.before.before.requires in rw (c.before.line-from.ensures.0, after c) (le_trans p.1 p.2)
+sub-t9 : tie.Need-overflow_sub-result-2
+sub-t9 c = let p = c.before.before.before.requires in rw (c.before.line_from-before.ensures.0, after c) (le_trans p.1 p.2)
 
 returns : tie.Need-returns
 unfolding in_cell
-returns c = rw (c.before.line-from.ensures.0, after c) refl
+returns c = rw (c.before.line_from-before.ensures.0, after c) refl
 
-pub in-cell-spec : {M : Type 1} → statement M
-in-cell-spec =
+pub in_cell_spec : {M : Type 1} → statement M
+in_cell_spec =
     tie.close
     (tie.spec
     (λ c κs. search rules)

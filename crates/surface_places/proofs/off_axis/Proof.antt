@@ -7,7 +7,7 @@ use Rattle.surface_places.proofs.off_axis.Tie as tie
 
 returns : tie.Need-returns
 unfolding off_axis
-returns c = rw (c.before.line-from.ensures.0, c.line-from2.ensures.0) refl
+returns c = rw (c.before.line_from.ensures.0, c.line_from-2.ensures.0) refl
 
-pub off-axis-spec : {M : Type 1} → statement M
-off-axis-spec = tie.close (tie.spec (λ c κs. search rules) (λ c. search rules) (λ c κs. search rules) returns)
+pub off_axis_spec : {M : Type 1} → statement M
+off_axis_spec = tie.close (tie.spec (λ c κs. search rules) (λ c. search rules) (λ c κs. search rules) returns)

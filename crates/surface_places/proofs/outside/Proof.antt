@@ -3,21 +3,21 @@ use Rattle.surface_places.proofs.Axes.{off_either, header_read}
 use Rattle.surface_places.proofs.outside.Statement.{statement}
 use Rattle.surface_places.proofs.outside.Tie as tie
 
-off-axis-requires : tie.Need-off-axis-requires
+off-axis-requires : tie.Need-off_axis-across-requires
 off-axis-requires c κs = rw c.columns.ensures.0 c.before.before.requires.across
 
-off-axis-requires-2 : tie.Need-off-axis-requires-2
-off-axis-requires-2 c κs = rw (c.rows.ensures.0, c.before.y-lines-offset.ensures.0) c.before.before.before.before.before.requires.down
+off-axis-requires-2 : tie.Need-off_axis-down-requires
+off-axis-requires-2 c κs = rw (c.rows.ensures.0, c.before.y_lines_offset.ensures.0) c.before.before.before.before.before.requires.down
 
 returns : tie.Need-returns
 returns c =
     let r = c.before in
     let y = r.before in
     let x = y.before in
-    rw (c.off-axis2.ensures, r.rows.ensures.0, y.y-lines-offset.ensures.0, x.off-axis.ensures, x.before.columns.ensures.0) (off_either _ _ _)
+    rw (c.off_axis-down.ensures, r.rows.ensures.0, y.y_lines_offset.ensures.0, x.off_axis-across.ensures, x.before.columns.ensures.0) (off_either _ _ _)
 
-pub outside-spec : {M : Type 1} → statement M
-outside-spec =
+pub outside_spec : {M : Type 1} → statement M
+outside_spec =
     tie.close
     (tie.spec
     (λ c κs. header_read c.before.requires)

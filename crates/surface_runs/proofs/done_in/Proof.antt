@@ -9,17 +9,17 @@ use Rattle.surface_runs.specs.Strips.{done_in}
 use Rattle.surface_runs.proofs.done_in.Statement.{statement}
 use Rattle.surface_runs.proofs.done_in.Tie as tie
 
-returns : tie.Need-returns
+returns : tie.Need-returns-then-column-columns
 unfolding done_in
-returns c = rw (eq-eqb _ _ (c.if1.true ∙ c.before.columns.ensures.0)) refl
+returns c = rw (eq-eqb _ _ (c.if-column-columns.true ∙ c.before.columns.ensures.0)) refl
 
-returns-2 : tie.Need-returns-2
+returns-2 : tie.Need-returns
 unfolding done_in
 returns-2 c = let e = c.before in let s = e.before.before.before in
-    rw (ne_eqb _ _ (λ q. e.if1.false (q ∙ sym e.before.columns.ensures.0))) (c.least.ensures ∙ ap (λ (r : ℕ). min s.args.count (r - s.args.x)) s.requires.2)
+    rw (ne_eqb _ _ (λ q. e.if-column-columns.false (q ∙ sym e.before.columns.ensures.0))) (c.least.ensures ∙ ap (λ (r : ℕ). min s.args.count (r - s.args.x)) s.requires.2)
 
-pub done-in-spec : {M : Type 1} → statement M
-done-in-spec =
+pub done_in_spec : {M : Type 1} → statement M
+done_in_spec =
     tie.close
     (tie.spec
     (λ c. let many = (sound _ c.before.requires.0).many_columns in search rules)

@@ -33,77 +33,77 @@ module _ (s : tie.Start) where
   abbrev on : OnStrip s.args.sheet.now s.args.strip s.args.x s.args.count
   on = s.requires.0.on
 
-  has : HasCell s.args.sheet.now s.args.column s.args.strip.row
-  has = strip_cell s.pre.0
+  has : HasCell s.args.sheet.now s.args.column s.args.strip.row-1
+  has = strip_cell s.requires.0
 
   starts : line_x s.args.sheet.now s.args.column ≤ s.args.x + s.args.done
-  starts = column_starts s.pre.0
+  starts = column_starts s.requires.0
 
-  ended : Ends s.pre.0 (done_in s.args.sheet.now s.args.x s.args.column s.args.count)
-  ended = ends s.pre.0
+  ended : Ends s.requires.0 (done_in s.args.sheet.now s.args.x s.args.column s.args.count)
+  ended = ends s.requires.0
 
-  fit : FitsCell (next_pixel s.pre.0) (done_in s.args.sheet.now s.args.x s.args.column s.args.count - s.args.done)
-  fit = pixels_fit s.pre.0
+  fit : FitsCell (next_pixel s.requires.0) (done_in s.args.sheet.now s.args.x s.args.column s.args.count - s.args.done)
+  fit = pixels_fit s.requires.0
 
 -- the column's two lines, and the width between them
-module _ (c : tie.After-line-x2) where
+module _ (c : tie.After-line_x-right) where
   abbrev s : tie.Start
   s = c.before.before.before
 
   abbrev line : ℕ → ℕ
   line i = line_x s.args.sheet.now i
 
-  right : c.line-x2.result ≡ line (suc s.args.column)
-  right = c.line-x2.ensures ∙ ap line (add-one s.args.column)
+  right : c.line_x-right.result ≡ line (suc s.args.column)
+  right = c.line_x-right.ensures ∙ ap line (add-one s.args.column)
 
-  width : c.line-x2.result - c.before.line_x.result ≡ line (suc s.args.column) - line s.args.column
-  width = λ j. right j - c.before.line_x.ensures j
+  width : c.line_x-right.result - c.before.line_x-left.result ≡ line (suc s.args.column) - line s.args.column
+  width = λ j. right j - c.before.line_x-left.ensures j
 
-line-x-requires : tie.Need-line-x-requires
+line-x-requires : tie.Need-line_x-left-requires
 line-x-requires c κs = let h = (has c.before).column in (lines_there _ (on c.before).accepted, omega arith)
 
-line-x-requires-2 : tie.Need-line-x-requires-2
+line-x-requires-2 : tie.Need-line_x-right-requires
 line-x-requires-2 c κs = let h = (has c.before.before).column in (lines_there _ (on c.before.before).accepted, omega arith)
 
-sub-width : tie.Need-overflow-sub-width
+sub-width : tie.Need-overflow_sub-width
 sub-width c = let s = c.before.before.before in
-    let rises = (x_rising _ (on s).accepted).rises s.args.column (has s).column in omega (arith, right c, c.before.line_x.ensures, rises)
+    let rises = (x_rising _ (on s).accepted).rises s.args.column (has s).column in omega (arith, right c, c.before.line_x-left.ensures, rises)
 
-done-in-requires : tie.Need-done-in-requires
+done-in-requires : tie.Need-done_in-end-requires
 done-in-requires c κs = let s = c.before.before.before in ((on s).accepted, (has s).column, right c, omega (arith, right c, column_ends s.requires.0))
 
-corner-numbers-requires : tie.Need-corner-numbers-requires
+corner-numbers-requires : tie.Need-corner_numbers-n-requires
 corner-numbers-requires c κs = let l = c.before in let s = l.before.before.before in
     ((on s).accepted, has s, rw (width l) (fit s).inside.width, (fit s).inside.height)
 
-sub-t16 : tie.Need-overflow-sub-t16
-sub-t16 c = let l = c.before.before.before in rw l.line_x.ensures (starts l.before.before)
+sub-t16 : tie.Need-overflow_sub-next
+sub-t16 c = let l = c.before.before.before in rw l.line_x-left.ensures (starts l.before.before)
 
-sub-fill-cell : tie.Need-overflow-sub-fill-cell
-sub-fill-cell c = let d = c.before.before in rw d.done-in.ensures (le_of_lt (ended d.before.before.before.before).further)
+sub-fill-cell : tie.Need-overflow_sub-end
+sub-fill-cell c = let d = c.before.before in rw d.done_in-end.ensures (le_of_lt (ended d.before.before.before.before).further)
 
 -- ---- the next pixel and its cell, as the code has them
 
-module _ (c : tie.After-fill-cell-arg) where
-  abbrev l : tie.After-line-x2
+module _ (c : tie.After-fill_cell-arg-1) where
+  abbrev l : tie.After-line_x-right
   l = c.before.before.before
 
   -- the next pixel, its left line and its width given
   abbrev pixel_of : ℕ → ℕ → Pixel
   pixel_of left w = let a = (s l).args in record { a = a.x + a.done - left; b = a.strip.offset; width = w; height = a.strip.height }
 
-  pixel_is : pixel_of l.before.line_x.result (l.line-x2.result - l.before.line_x.result) ≡ next_pixel (s l).pre.0
-  pixel_is = λ j. pixel_of (l.before.line_x.ensures j) (width l j)
+  pixel_is : pixel_of l.before.line_x-left.result (l.line_x-right.result - l.before.line_x-left.result) ≡ next_pixel (s l).requires.0
+  pixel_is = λ j. pixel_of (l.before.line_x-left.ensures j) (width l j)
 
   -- the corner numbers of its cell, the width given
   abbrev numbers_of : ℕ → List (List ℤ)
-  numbers_of w = let a = (s l).args in arrays (corner_numbers (cell w a.strip.height) (nodes_of a.sheet.now a.column a.strip.row))
+  numbers_of w = let a = (s l).args in arrays (corner_numbers (cell w a.strip.height) (nodes_of a.sheet.now a.column a.strip.row-1))
 
-  corner : c.before.corner-numbers.result ≡ numbers_of (line l (suc (s l).args.column) - line l (s l).args.column)
-  corner = c.before.corner-numbers.ensures ∙ ap numbers_of (width l)
+  corner : c.before.corner_numbers-n.result ≡ numbers_of (line l (suc (s l).args.column) - line l (s l).args.column)
+  corner = c.before.corner_numbers-n.ensures ∙ ap numbers_of (width l)
 
-fill-cell-requires : tie.Need-fill-cell-requires
-fill-cell-requires c κs = let s = c.before.before.before.before.before.before in let e = c.before.before.done-in.ensures in (
+fill-cell-requires : tie.Need-fill_cell-requires
+fill-cell-requires c κs = let s = c.before.before.before.before.before.before in let e = c.before.before.done_in-end.ensures in (
   subst⁻¹ (AllWithin largest) (held _ (corner c)) (column_within s.requires.0),
   rw e (subst⁻¹ (λ p. FitsCell p (done_in s.args.sheet.now s.args.x s.args.column s.args.count - s.args.done)) (pixel_is c) (fit s)),
   omega (arith, e, (ended s).further, (ended s).most, s.requires.1),
@@ -111,14 +111,14 @@ fill-cell-requires c κs = let s = c.before.before.before.before.before.before i
 
 returns : tie.Need-returns
 returns c = let f = c.before in let a = f.before in let d = a.before.before in let s = d.before.before.before.before in (
-  d.done-in.ensures,
-  f.fill-cell.ensures
-      ∙ (λ j. steps (starting_at s.args.done (λ k. cell_level (corners a.before.corner-numbers.result) (to_right (pixel_is a j) k))) s.args.done (d.done-in.result - s.args.done) s.args.row.now)
-      ∙ steps_same _ _ _ _ _ (λ k l. starting_at_lem s.args.done _ k ∙ column_levels s.requires.0 (corner a) k (omega (arith, l, d.done-in.ensures))),
+  d.done_in-end.ensures,
+  f.fill_cell.ensures
+      ∙ (λ j. steps (starting_at s.args.done (λ k. cell_level (corners a.before.corner_numbers-n.result) (to_right (pixel_is a j) k))) s.args.done (d.done_in-end.result - s.args.done) s.args.row-1.now)
+      ∙ steps_same _ _ _ _ _ (λ k l. starting_at_lem s.args.done _ k ∙ column_levels s.requires.0 (corner a) k (omega (arith, l, d.done_in-end.ensures))),
 )
 
-pub fill-column-spec : {M : Type 1} → statement M
-fill-column-spec =
+pub fill_column_spec : {M : Type 1} → statement M
+fill_column_spec =
     tie.close
     (tie.spec
     line-x-requires

@@ -20,16 +20,16 @@ use Rattle.surface_zoning.proofs.Stretches.{level_near}
 use Rattle.surface_zoning.proofs.zoned_level.Statement.{statement}
 use Rattle.surface_zoning.proofs.zoned_level.Tie as tie
 
-returns : tie.Need-returns
+returns : tie.Need-returns-then-refusal-ne0
 unfolding zoned_outcome
-returns c = sym (refused_answer _ _ _ _ c.before.zoned-refusal.ensures c.if1.true)
+returns c = sym (refused_answer _ _ _ _ c.before.zoned_refusal-refusal.ensures c.if-refusal-ne0.true)
 
-module _ (c : tie.Else1) where
+module _ (c : tie.Else-refusal-ne0) where
   abbrev s : tie.Start
   s = c.before.before.before.before
 
   unrefused : let a = s.args in zoned_refusal a.sheet.now a.zones.now a.x a.y ≡ 0
-  unrefused = sym c.before.zoned-refusal.ensures ∙ c.if1.false
+  unrefused = sym c.before.zoned_refusal-refusal.ensures ∙ c.if-refusal-ne0.false
 
   on_mesh : let a = s.args in Accepted a.sheet.now × Inside a.sheet.now a.x a.y
   on_mesh = let t = (taken _ _ _ _).0 unrefused in (t.0, t.1)
@@ -40,20 +40,20 @@ module _ (c : tie.Else1) where
 -- the level, of 64 bits and of 32
 module _ (c : tie.After-level) where
   is_level : to_z w64 (of_z w64 c.level.result) ≡ level (s c.before.before).args.sheet.now (s c.before.before).args.x (s c.before.before).args.y
-  is_level = unchanged w64 c.level.type-inv ∙ c.level.ensures
+  is_level = unchanged w64 c.level.type_inv ∙ c.level.ensures
 
-cast-clamp-level : tie.Need-overflow-cast-clamp-level
+cast-clamp-level : tie.Need-overflow_cast-level
 cast-clamp-level c = rw (is_level c) (fits (near c.before.before) (lit< tt))
 
-returns-2 : tie.Need-returns-2
+returns-2 : tie.Need-returns
 unfolding zoned_outcome zoned_level
 returns-2 c = let l = c.before in let e = l.before.before in
     let number = to_z-of_z w32 _ (cast-clamp-level l) ∙ is_level l in
-    let zoned = unchanged w32 c.clamp-level.type-inv ∙ c.clamp-level.ensures ∙ (λ t. clamped (l.before.clamp-at.ensures t) (number t)) ∙ sym (as_clamp _ _ _ (near e)) in
+    let zoned = unchanged w32 c.clamp_level.type_inv ∙ c.clamp_level.ensures ∙ (λ t. clamped (l.before.clamp_at-clamp.ensures t) (number t)) ∙ sym (as_clamp _ _ _ (near e)) in
     (λ t. record { number = 0; levels = zoned t ∷ [] }) ∙ sym (level_answer _ _ _ _ (unrefused e))
 
-pub zoned-level-spec : {M : Type 1} → statement M
-zoned-level-spec =
+pub zoned_level_spec : {M : Type 1} → statement M
+zoned_level_spec =
     tie.close
     (tie.spec
     (λ c κs. search rules) returns

@@ -6,11 +6,11 @@ use Rattle.surface_zones.proofs.Chain.{zoned_run_is}
 use Rattle.surface_zoning.proofs.zoned_run_refusal.Statement.{statement}
 use Rattle.surface_zoning.proofs.zoned_run_refusal.Tie as tie
 
-returns : tie.Need-returns
-returns c = refused_by_lem _ _ (zoned_run_is _ _ _ _ _) c.before.run-refusal.ensures c.if1.true
+returns : tie.Need-returns-then-of_run-ne0
+returns c = refused_by_lem _ _ (zoned_run_is _ _ _ _ _) c.before.run_refusal-of_run.ensures c.if-of_run-ne0.true
 
-returns-2 : tie.Need-returns-2
-returns-2 c = c.zones-refusal.ensures ∙ passed_by _ _ (zoned_run_is _ _ _ _ _) c.before.before.run-refusal.ensures c.before.if1.false
+returns-2 : tie.Need-returns
+returns-2 c = c.zones_refusal.ensures ∙ passed_by _ _ (zoned_run_is _ _ _ _ _) c.before.before.run_refusal-of_run.ensures c.before.if-of_run-ne0.false
 
-pub zoned-run-refusal-spec : {M : Type 1} → statement M
-zoned-run-refusal-spec = tie.close (tie.spec (λ c κs. search rules) returns (λ c κs. search rules) returns-2)
+pub zoned_run_refusal_spec : {M : Type 1} → statement M
+zoned_run_refusal_spec = tie.close (tie.spec (λ c κs. search rules) returns (λ c κs. search rules) returns-2)

@@ -5,10 +5,10 @@ use borrow.Author.Rules.{rules}
 use Rattle.test_integers.proofs.main.Statement.{statement}
 use Rattle.test_integers.proofs.main.Tie as tie
 
-abbrev invariant-loop : tie.invariant-loop
+abbrev invariant-loop : tie.invariant-loop-k
 invariant-loop k₀ k = k ≤ 280
 
-abbrev decreases-loop : tie.decreases-loop
+abbrev decreases-loop : tie.decreases-loop-k
 decreases-loop k₀ k = 280 - k
 
 pub main_spec : {M : Type 1} → statement M

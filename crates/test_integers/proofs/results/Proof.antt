@@ -34,19 +34,19 @@ reach s = literal (pos (2 ^ 24)) ⊠ d s
 abbrev lowest : tie.Start → Operand
 lowest s = literal (pos 0) ⊟ stored w64 (reach s) tt
 
-mul-reach : tie.Need-overflow-mul-reach
+mul-reach : tie.Need-overflow_mul-reach
 mul-reach c = asks w64 (reach c.before.before) tt
 
-sub-if1 : tie.Need-overflow-sub-if1
+sub-if1 : tie.Need-overflow_sub-reach
 sub-if1 c = asks w64 (lowest c.before.before) tt
 
-round-small-requires : tie.Need-round-small-requires
+round-small-requires : tie.Need-round_small-requires
 round-small-requires c κs = let e = c.before.before.before in let s = e.before.before.before.before in
     rw (n s).reads (subst⁻¹ (λ k. InReach s.args.n k) c.new.ensures (rw (d s).reads (in_reach s.requires.denominator (between s.requires.denominator.positive
-    (at_most (stored w64 (lowest s) tt) (n s) e.before.if1.true) (at_most (n s) (stored w64 (reach s) tt) e.if2.true)))))
+    (at_most (stored w64 (lowest s) tt) (n s) e.before.if-reach-n.true) (at_most (n s) (stored w64 (reach s) tt) e.if-n-reach.true)))))
 
-pub results-spec : {M : Type 1} → statement M
-results-spec =
+pub results_spec : {M : Type 1} → statement M
+results_spec =
     tie.close
     (tie.spec
     (λ c κs. search rules)

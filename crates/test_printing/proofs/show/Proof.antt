@@ -20,26 +20,26 @@ below (negsuc a) h f = rw reflected (is_within (pos a) (omega (arith, f.sfits)),
 abbrev n : tie.Start → Operand
 n s = any w64 s.ranges.n
 
-negative : (c : tie.Then1) → ((negsuc 0 -ℤ c.before.args.n) within (2 ^ 63 - 1)) × (pos 0 ≤ℤ (negsuc 0 -ℤ c.before.args.n))
-negative c = let s = c.before in below s.args.n (less (n s) (literal (pos 0)) c.if1.true) s.ranges.n
+negative : (c : tie.Then-n-lt0) → ((negsuc 0 -ℤ c.before.args.n) within (2 ^ 63 - 1)) × (pos 0 ≤ℤ (negsuc 0 -ℤ c.before.args.n))
+negative c = let s = c.before in below s.args.n (less (n s) (literal (pos 0)) c.if-n-lt0.true) s.ranges.n
 
-abbrev m : tie.Then1 → Operand
+abbrev m : tie.Then-n-lt0 → Operand
 m c = rebound (literal (negsuc 0) ⊟ n c.before) (negative c).0
 
-sub-m : tie.Need-overflow-sub-m
+sub-m : tie.Need-overflow_sub-m
 sub-m c = asks w64 (m c.before.before) tt
 
-cast-print-decimal : tie.Need-overflow-cast-print-decimal
+cast-print-decimal : tie.Need-overflow_cast-m
 cast-print-decimal c = asks_unsigned w64 (stored w64 (m c.before.before) tt) (negative c.before.before).1 tt
 
-add-print-decimal : tie.Need-overflow-add-print-decimal
+add-print-decimal : tie.Need-overflow_add-m
 add-print-decimal c = omega (arith, (read_within (stored w64 (m c.before.before) tt)).bound)
 
-cast-print-decimal-2 : tie.Need-overflow-cast-print-decimal-2
-cast-print-decimal-2 c = asks_unsigned w64 (n c.before) (not_less (n c.before) (literal (pos 0)) c.if1.false) tt
+cast-print-decimal-2 : tie.Need-overflow_cast-n
+cast-print-decimal-2 c = asks_unsigned w64 (n c.before) (not_less (n c.before) (literal (pos 0)) c.if-n-lt0.false) tt
 
-pub show-spec : {M : Type 1} → statement M
-show-spec =
+pub show_spec : {M : Type 1} → statement M
+show_spec =
     tie.close
     (tie.spec
     (λ c. search rules)

@@ -11,5 +11,5 @@ z s = unsigned w64 s.requires tt
 abbrev cubed : tie.Start → Operand
 cubed s = stored w64 (z s ⊠ z s) tt ⊠ z s
 
-pub cube-spec : {M : Type 1} → statement M
-cube-spec = tie.close (tie.spec (λ c. search rules) (λ c. asks w64 (z c ⊠ z c) tt) (λ c. asks w64 (cubed c) tt) (λ c. gives w64 (cubed c) tt))
+pub cube_spec : {M : Type 1} → statement M
+cube_spec = tie.close (tie.spec (λ c. search rules) (λ c. asks w64 (z c ⊠ z c) tt) (λ c. asks w64 (cubed c) tt) (λ c. gives w64 (cubed c) tt))

@@ -4,5 +4,5 @@ use Rattle.element_differences.proofs.Rises.{difference_laws}
 use Rattle.element_differences.proofs.theorems.difference_laws.Statement.{statement}
 use Rattle.element_differences.proofs.theorems.difference_laws.Tie as tie
 
-pub difference-laws-spec : {M : Type 1} → statement M
-difference-laws-spec = tie.close (tie.spec (λ c. (refl, difference_laws)))
+pub difference_laws_spec : {M : Type 1} → statement M
+difference_laws_spec = tie.close (tie.spec (λ c. (refl, difference_laws)))

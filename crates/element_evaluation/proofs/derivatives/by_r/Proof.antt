@@ -16,8 +16,8 @@ returns c = let h = c.before.before.before.before.before.before.requires in λ i
     (k_at h r¹).reads i ∷ gives w64 (literal (pos 2) ⊠ k_at h r²) tt i ∷ (k_at h rs).reads i ∷ gives w64 (literal (pos 3) ⊠ k_at h r³) tt i ∷
     gives w64 (literal (pos 2) ⊠ k_at h r²s) tt i ∷ (k_at h rs²).reads i ∷ []
 
-pub by-r-spec : {M : Type 1} → statement M
-by-r-spec =
+pub by_r_spec : {M : Type 1} → statement M
+by_r_spec =
     tie.close
     (tie.spec
     (λ c. search rules)

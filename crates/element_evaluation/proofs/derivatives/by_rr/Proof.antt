@@ -16,8 +16,8 @@ returns c = let h = c.before.before.before.requires in λ i.
     gives w64 (literal (pos 2) ⊠ k_at h r²) tt i ∷ gives w64 (literal (pos 2) ⊠ stored w64 (literal (pos 3) ⊠ k_at h r³) tt) tt i ∷
     gives w64 (literal (pos 2) ⊠ k_at h r²s) tt i ∷ []
 
-pub by-rr-spec : {M : Type 1} → statement M
-by-rr-spec =
+pub by_rr_spec : {M : Type 1} → statement M
+by_rr_spec =
     tie.close
     (tie.spec
     (λ c. search rules)

@@ -15,8 +15,8 @@ unfolding by_r by_s listed halves
 returns c = let h = c.before.before.before.requires in λ i.
     (k_at h rs).reads i ∷ gives w64 (literal (pos 2) ⊠ k_at h r²s) tt i ∷ gives w64 (literal (pos 2) ⊠ k_at h rs²) tt i ∷ []
 
-pub by-rs-spec : {M : Type 1} → statement M
-by-rs-spec =
+pub by_rs_spec : {M : Type 1} → statement M
+by_rs_spec =
     tie.close
     (tie.spec
     (λ c. search rules)

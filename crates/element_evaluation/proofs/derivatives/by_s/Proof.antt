@@ -16,8 +16,8 @@ returns c = let h = c.before.before.before.before.before.before.requires in λ i
     (k_at h s¹).reads i ∷ (k_at h rs).reads i ∷ gives w64 (literal (pos 2) ⊠ k_at h s²) tt i ∷ (k_at h r²s).reads i ∷
     gives w64 (literal (pos 2) ⊠ k_at h rs²) tt i ∷ gives w64 (literal (pos 3) ⊠ k_at h s³) tt i ∷ []
 
-pub by-s-spec : {M : Type 1} → statement M
-by-s-spec =
+pub by_s_spec : {M : Type 1} → statement M
+by_s_spec =
     tie.close
     (tie.spec
     (λ c. search rules)

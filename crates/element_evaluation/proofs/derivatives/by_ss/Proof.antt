@@ -16,8 +16,8 @@ returns c = let h = c.before.before.before.requires in λ i.
     gives w64 (literal (pos 2) ⊠ k_at h s²) tt i ∷ gives w64 (literal (pos 2) ⊠ k_at h rs²) tt i ∷
     gives w64 (literal (pos 2) ⊠ stored w64 (literal (pos 3) ⊠ k_at h s³) tt) tt i ∷ []
 
-pub by-ss-spec : {M : Type 1} → statement M
-by-ss-spec =
+pub by_ss_spec : {M : Type 1} → statement M
+by_ss_spec =
     tie.close
     (tie.spec
     (λ c. search rules)

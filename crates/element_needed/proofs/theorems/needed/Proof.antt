@@ -4,5 +4,5 @@ use Rattle.element_needed.proofs.Counterexamples.{needed}
 use Rattle.element_needed.proofs.theorems.needed.Statement.{statement}
 use Rattle.element_needed.proofs.theorems.needed.Tie as tie
 
-pub needed-spec : {M : Type 1} → statement M
-needed-spec = tie.close (tie.spec (λ c. (refl, needed)))
+pub needed_spec : {M : Type 1} → statement M
+needed_spec = tie.close (tie.spec (λ c. (refl, needed)))

@@ -4,5 +4,5 @@ use Rattle.element_nistir_6718.proofs.Misprinted.{misprints}
 use Rattle.element_nistir_6718.proofs.theorems.misprints.Statement.{statement}
 use Rattle.element_nistir_6718.proofs.theorems.misprints.Tie as tie
 
-pub misprints-spec : {M : Type 1} → statement M
-misprints-spec = tie.close (tie.spec (λ c. (refl, misprints)))
+pub misprints_spec : {M : Type 1} → statement M
+misprints_spec = tie.close (tie.spec (λ c. (refl, misprints)))

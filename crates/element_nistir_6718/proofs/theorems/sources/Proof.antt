@@ -4,5 +4,5 @@ use Rattle.element_nistir_6718.proofs.Printed.{sources}
 use Rattle.element_nistir_6718.proofs.theorems.sources.Statement.{statement}
 use Rattle.element_nistir_6718.proofs.theorems.sources.Tie as tie
 
-pub sources-spec : {M : Type 1} → statement M
-sources-spec = tie.close (tie.spec (λ c. (refl, sources)))
+pub sources_spec : {M : Type 1} → statement M
+sources_spec = tie.close (tie.spec (λ c. (refl, sources)))

@@ -4,5 +4,5 @@ use Rattle.element_readings.proofs.AtCorners.{at_corners}
 use Rattle.element_readings.proofs.theorems.at_corners.Statement.{statement}
 use Rattle.element_readings.proofs.theorems.at_corners.Tie as tie
 
-pub at-corners-spec : {M : Type 1} → statement M
-at-corners-spec = tie.close (tie.spec (λ c. (refl, at_corners)))
+pub at_corners_spec : {M : Type 1} → statement M
+at_corners_spec = tie.close (tie.spec (λ c. (refl, at_corners)))

@@ -4,5 +4,5 @@ use Rattle.element_readings.proofs.Bounds.{bounds}
 use Rattle.element_readings.proofs.theorems.bounds.Statement.{statement}
 use Rattle.element_readings.proofs.theorems.bounds.Tie as tie
 
-pub bounds-spec : {M : Type 1} → statement M
-bounds-spec = tie.close (tie.spec (λ c. (refl, bounds)))
+pub bounds_spec : {M : Type 1} → statement M
+bounds_spec = tie.close (tie.spec (λ c. (refl, bounds)))

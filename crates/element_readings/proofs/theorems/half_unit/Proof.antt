@@ -4,5 +4,5 @@ use Rattle.element_readings.proofs.Rounded.{half_unit}
 use Rattle.element_readings.proofs.theorems.half_unit.Statement.{statement}
 use Rattle.element_readings.proofs.theorems.half_unit.Tie as tie
 
-pub half-unit-spec : {M : Type 1} → statement M
-half-unit-spec = tie.close (tie.spec (λ c. (refl, half_unit)))
+pub half_unit_spec : {M : Type 1} → statement M
+half_unit_spec = tie.close (tie.spec (λ c. (refl, half_unit)))

@@ -4,5 +4,5 @@ use Rattle.element_readings.proofs.WeightSums.{weight_sums}
 use Rattle.element_readings.proofs.theorems.weight_sums.Statement.{statement}
 use Rattle.element_readings.proofs.theorems.weight_sums.Tie as tie
 
-pub weight-sums-spec : {M : Type 1} → statement M
-weight-sums-spec = tie.close (tie.spec (λ c. (refl, weight_sums)))
+pub weight_sums_spec : {M : Type 1} → statement M
+weight_sums_spec = tie.close (tie.spec (λ c. (refl, weight_sums)))

@@ -4,5 +4,5 @@ use Rattle.element_row_cubic.proofs.Heights.{row_laws}
 use Rattle.element_row_cubic.proofs.theorems.row_laws.Statement.{statement}
 use Rattle.element_row_cubic.proofs.theorems.row_laws.Tie as tie
 
-pub row-laws-spec : {M : Type 1} → statement M
-row-laws-spec = tie.close (tie.spec (λ c. (refl, row_laws)))
+pub row_laws_spec : {M : Type 1} → statement M
+row_laws_spec = tie.close (tie.spec (λ c. (refl, row_laws)))

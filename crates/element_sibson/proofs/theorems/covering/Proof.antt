@@ -4,5 +4,5 @@ use Rattle.element_sibson.proofs.Covers.{covering}
 use Rattle.element_sibson.proofs.theorems.covering.Statement.{statement}
 use Rattle.element_sibson.proofs.theorems.covering.Tie as tie
 
-pub covering-spec : {M : Type 1} → statement M
-covering-spec = tie.close (tie.spec (λ c. (refl, covering)))
+pub covering_spec : {M : Type 1} → statement M
+covering_spec = tie.close (tie.spec (λ c. (refl, covering)))

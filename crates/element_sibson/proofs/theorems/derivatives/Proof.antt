@@ -4,5 +4,5 @@ use Rattle.element_sibson.proofs.Derivatives.{derivatives}
 use Rattle.element_sibson.proofs.theorems.derivatives.Statement.{statement}
 use Rattle.element_sibson.proofs.theorems.derivatives.Tie as tie
 
-pub derivatives-spec : {M : Type 1} → statement M
-derivatives-spec = tie.close (tie.spec (λ c. (refl, derivatives)))
+pub derivatives_spec : {M : Type 1} → statement M
+derivatives_spec = tie.close (tie.spec (λ c. (refl, derivatives)))

@@ -4,5 +4,5 @@ use Rattle.element_sibson.proofs.Unique.{existence}
 use Rattle.element_sibson.proofs.theorems.existence.Statement.{statement}
 use Rattle.element_sibson.proofs.theorems.existence.Tie as tie
 
-pub existence-spec : {M : Type 1} → statement M
-existence-spec = tie.close (tie.spec (λ c. (refl, existence)))
+pub existence_spec : {M : Type 1} → statement M
+existence_spec = tie.close (tie.spec (λ c. (refl, existence)))

@@ -4,5 +4,5 @@ use Rattle.element_sibson.proofs.Fractions.{fraction_laws}
 use Rattle.element_sibson.proofs.theorems.fraction_laws.Statement.{statement}
 use Rattle.element_sibson.proofs.theorems.fraction_laws.Tie as tie
 
-pub fraction-laws-spec : {M : Type 1} → statement M
-fraction-laws-spec = tie.close (tie.spec (λ c. (refl, fraction_laws)))
+pub fraction_laws_spec : {M : Type 1} → statement M
+fraction_laws_spec = tie.close (tie.spec (λ c. (refl, fraction_laws)))

@@ -4,5 +4,5 @@ use Rattle.element_sibson.proofs.Linearity.{linearity}
 use Rattle.element_sibson.proofs.theorems.linearity.Statement.{statement}
 use Rattle.element_sibson.proofs.theorems.linearity.Tie as tie
 
-pub linearity-spec : {M : Type 1} → statement M
-linearity-spec = tie.close (tie.spec (λ c. (refl, linearity)))
+pub linearity_spec : {M : Type 1} → statement M
+linearity_spec = tie.close (tie.spec (λ c. (refl, linearity)))

@@ -4,5 +4,5 @@ use Rattle.element_sibson.proofs.SameValues.{same_values_lem}
 use Rattle.element_sibson.proofs.theorems.same_values.Statement.{statement}
 use Rattle.element_sibson.proofs.theorems.same_values.Tie as tie
 
-pub same-values-spec : {M : Type 1} → statement M
-same-values-spec = tie.close (tie.spec (λ c. (refl, same_values_lem)))
+pub same_values_spec : {M : Type 1} → statement M
+same_values_spec = tie.close (tie.spec (λ c. (refl, same_values_lem)))

@@ -4,5 +4,5 @@ use Rattle.element_sibson.proofs.Turnings.{turnings}
 use Rattle.element_sibson.proofs.theorems.turnings.Statement.{statement}
 use Rattle.element_sibson.proofs.theorems.turnings.Tie as tie
 
-pub turnings-spec : {M : Type 1} → statement M
-turnings-spec = tie.close (tie.spec (λ c. (refl, turnings)))
+pub turnings_spec : {M : Type 1} → statement M
+turnings_spec = tie.close (tie.spec (λ c. (refl, turnings)))

@@ -4,5 +4,5 @@ use Rattle.element_sibson.proofs.Unique.{uniqueness}
 use Rattle.element_sibson.proofs.theorems.uniqueness.Statement.{statement}
 use Rattle.element_sibson.proofs.theorems.uniqueness.Tie as tie
 
-pub uniqueness-spec : {M : Type 1} → statement M
-uniqueness-spec = tie.close (tie.spec (λ c. (refl, uniqueness)))
+pub uniqueness_spec : {M : Type 1} → statement M
+uniqueness_spec = tie.close (tie.spec (λ c. (refl, uniqueness)))

@@ -4,5 +4,5 @@ use Rattle.element_spans.proofs.Laws.{span_laws}
 use Rattle.element_spans.proofs.theorems.span_laws.Statement.{statement}
 use Rattle.element_spans.proofs.theorems.span_laws.Tie as tie
 
-pub span-laws-spec : {M : Type 1} → statement M
-span-laws-spec = tie.close (tie.spec (λ c. (refl, span_laws)))
+pub span_laws_spec : {M : Type 1} → statement M
+span_laws_spec = tie.close (tie.spec (λ c. (refl, span_laws)))

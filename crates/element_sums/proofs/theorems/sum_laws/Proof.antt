@@ -4,5 +4,5 @@ use Rattle.element_sums.proofs.Sums.{sum_laws}
 use Rattle.element_sums.proofs.theorems.sum_laws.Statement.{statement}
 use Rattle.element_sums.proofs.theorems.sum_laws.Tie as tie
 
-pub sum-laws-spec : {M : Type 1} → statement M
-sum-laws-spec = tie.close (tie.spec (λ c. (refl, sum_laws)))
+pub sum_laws_spec : {M : Type 1} → statement M
+sum_laws_spec = tie.close (tie.spec (λ c. (refl, sum_laws)))

@@ -4,5 +4,5 @@ use Rattle.element_turnings.proofs.Joined.{joined}
 use Rattle.element_turnings.proofs.theorems.joined.Statement.{statement}
 use Rattle.element_turnings.proofs.theorems.joined.Tie as tie
 
-pub joined-spec : {M : Type 1} → statement M
-joined-spec = tie.close (tie.spec (λ c. (refl, joined)))
+pub joined_spec : {M : Type 1} → statement M
+joined_spec = tie.close (tie.spec (λ c. (refl, joined)))

@@ -35,24 +35,24 @@ quarter s = stored w64 (raised s) tt ⊘ literal (pos 4)
 abbrev inverse : tie.Start → Operand
 inverse s = literal (pos (2 ^ 62)) ⊘ stored w64 (quarter s) tt
 
-div-scale : tie.Need-nonzero-div-scale
+div-scale : tie.Need-nonzero_div-scale
 div-scale c = (bits_positive w64 c.requires.positive, asks w64 (scale c) tt)
 
-mul-raised : tie.Need-overflow-mul-raised
+mul-raised : tie.Need-overflow_mul-raised
 mul-raised c = asks w64 (raised c) tt
 
-below-38-bits-requires : tie.Need-below-38-bits-requires
+below-38-bits-requires : tie.Need-below_38_bits-value-requires
 below-38-bits-requires c κs = rw (d c).reads c.requires
 
-div-t5 : tie.Need-nonzero-div-t5
+div-t5 : tie.Need-nonzero_div-result
 div-t5 c = let s = c.before in (lit< tt, asks w64 (quarter s) tt)
 
-div-t6 : tie.Need-nonzero-div-t6
+div-t6 : tie.Need-nonzero_div-result-2
 div-t6 c = let s = c.before in (rw (quarter s).reads (bits_positive w64 (quarter_positive s.requires)), asks w64 (inverse s) tt)
 
 returns : tie.Need-returns
 returns c = let s = c.before in
-    (λ i. record { value = (unchanged w64 c.below-38-bits.type-inv ∙ c.below-38-bits.ensures ∙ (d s).reads) i; scale = gives w64 (scale s) tt i; inverse = gives w64 (inverse s) tt i })
+    (λ i. record { value = (unchanged w64 c.below_38_bits-value.type_inv ∙ c.below_38_bits-value.ensures ∙ (d s).reads) i; scale = gives w64 (scale s) tt i; inverse = gives w64 (inverse s) tt i })
     ∙ sym (computed s.requires.positive)
 
 pub new_spec : {M : Type 1} → statement M

@@ -33,44 +33,44 @@ q s = stored w64 (shifted (stored w64 (inverted s) tt) (2 ^ 37) tt) tt
 abbrev rest : tie.Start → Operand
 rest s = n s ⊟ stored w64 (q s ⊠ d s) tt
 
-mul-q : tie.Need-overflow-mul-q
+mul-q : tie.Need-overflow_mul-q
 mul-q c = asks w64 (scaled c.before.before.before) tt
 
 -- the entry, from where the fields have been read
-abbrev entry : tie.After-struct-told3 → tie.Start
+abbrev entry : tie.After-struct_told-3-1 → tie.Start
 entry c = c.before.before.before.before.before
 
-mul-q-2 : tie.Need-overflow-mul-q-2
+mul-q-2 : tie.Need-overflow_mul-q-2
 mul-q-2 c = asks w64 (inverted (entry c)) tt
 
-mul-rest : tie.Need-overflow-mul-rest
+mul-rest : tie.Need-overflow_mul-rest
 mul-rest c = asks w64 (q (entry c) ⊠ d (entry c)) tt
 
-sub-rest : tie.Need-overflow-sub-rest
+sub-rest : tie.Need-overflow_sub-rest
 sub-rest c = asks w64 (rest (entry c)) tt
 
 nearest-requires : tie.Need-nearest-requires
 nearest-requires c κs = let s = entry c.before.before in
     rw (gives w64 (rest s) tt, (q s).reads, (d s).reads) (
       within_mono (q s).bounded (lit≤ tt),
-      s.pre.prepared.denominator,
-      at_most (literal (pos 0)) (stored w64 (rest s) tt) c.before.if1.true,
-      less (stored w64 (rest s) tt) (d s) c.if2.true,
+      s.requires.prepared.denominator,
+      at_most (literal (pos 0)) (stored w64 (rest s) tt) c.before.if-rest-ge0.true,
+      less (stored w64 (rest s) tt) (d s) c.if-rest-d.true,
     )
 
 round-requires : tie.Need-round-requires
 round-requires c κs = let s = entry c.before in
-    rw ((n s).reads, (d s).reads) (record { numerator = within_mono (n s).bounded (lit≤ tt); denominator = s.pre.prepared.denominator })
+    rw ((n s).reads, (d s).reads) (record { numerator = within_mono (n s).bounded (lit≤ tt); denominator = s.requires.prepared.denominator })
 
-returns : tie.Need-returns
+returns : tie.Need-returns-then-rest-d
 returns c = let f = c.before in let s = entry f.before.before in
-    unchanged w64 c.nearest.type-inv ∙ rounded s.args.n (q s) (d s) (gives w64 (rest s) tt) c.nearest.ensures
+    unchanged w64 c.nearest.type_inv ∙ rounded s.args.n (q s) (d s) (gives w64 (rest s) tt) c.nearest.ensures
 
-returns-2 : tie.Need-returns-2
+returns-2 : tie.Need-returns-else-rest-ge0
 returns-2 c = let s = entry c.before.before in
-    unchanged w64 c.round.type-inv ∙ c.round.ensures ∙ (λ i. rule.round ((n s).reads i) (nat_abs ((d s).reads i)))
+    unchanged w64 c.round.type_inv ∙ c.round.ensures ∙ (λ i. rule.round ((n s).reads i) (nat_abs ((d s).reads i)))
 
-pub round-small-spec : {M : Type 1} → statement M
-round-small-spec =
+pub round_small_spec : {M : Type 1} → statement M
+round_small_spec =
     tie.close
     (tie.spec mul-q mul-q-2 mul-rest sub-rest nearest-requires round-requires returns returns-2)

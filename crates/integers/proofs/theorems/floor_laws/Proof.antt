@@ -4,5 +4,5 @@ use Rattle.integers.proofs.Floors.{floor_laws}
 use Rattle.integers.proofs.theorems.floor_laws.Statement.{statement}
 use Rattle.integers.proofs.theorems.floor_laws.Tie as tie
 
-pub floor-laws-spec : {M : Type 1} → statement M
-floor-laws-spec = tie.close (tie.spec (λ c. (refl, floor_laws)))
+pub floor_laws_spec : {M : Type 1} → statement M
+floor_laws_spec = tie.close (tie.spec (λ c. (refl, floor_laws)))

@@ -4,5 +4,5 @@ use Rattle.integers.proofs.RoundedSums.{rounded_sums}
 use Rattle.integers.proofs.theorems.rounded_sums.Statement.{statement}
 use Rattle.integers.proofs.theorems.rounded_sums.Tie as tie
 
-pub rounded-sums-spec : {M : Type 1} → statement M
-rounded-sums-spec = tie.close (tie.spec (λ c. (refl, rounded_sums)))
+pub rounded_sums_spec : {M : Type 1} → statement M
+rounded_sums_spec = tie.close (tie.spec (λ c. (refl, rounded_sums)))

@@ -4,5 +4,5 @@ use Rattle.integers.proofs.Stepwise.{stepwise_laws}
 use Rattle.integers.proofs.theorems.stepwise_laws.Statement.{statement}
 use Rattle.integers.proofs.theorems.stepwise_laws.Tie as tie
 
-pub stepwise-laws-spec : {M : Type 1} → statement M
-stepwise-laws-spec = tie.close (tie.spec (λ c. (refl, stepwise_laws)))
+pub stepwise_laws_spec : {M : Type 1} → statement M
+stepwise_laws_spec = tie.close (tie.spec (λ c. (refl, stepwise_laws)))

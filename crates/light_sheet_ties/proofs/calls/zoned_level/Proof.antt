@@ -4,5 +4,5 @@ use Rattle.light_sheet_ties.proofs.Zoned.{is_zoned_lem}
 use Rattle.light_sheet_ties.proofs.calls.zoned_level.Statement.{statement}
 use Rattle.light_sheet_ties.proofs.calls.zoned_level.Tie as tie
 
-pub zoned-level-spec : {M : Type 1} → statement M
-zoned-level-spec = tie.close (tie.spec (λ c κs. search rules) (λ c. let e = c.zoned-level.ensures in is_zoned_lem e.0 e.1.0 e.1.1))
+pub zoned_level_spec : {M : Type 1} → statement M
+zoned_level_spec = tie.close (tie.spec (λ c κs. search rules) (λ c. let e = c.zoned_level.ensures in is_zoned_lem e.0 e.1.0 e.1.1))

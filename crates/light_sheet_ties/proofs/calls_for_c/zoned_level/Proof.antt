@@ -4,6 +4,6 @@ use Rattle.light_sheet_ties.proofs.Zoned.{zoned_into_lem}
 use Rattle.light_sheet_ties.proofs.calls_for_c.zoned_level.Statement.{statement}
 use Rattle.light_sheet_ties.proofs.calls_for_c.zoned_level.Tie as tie
 
-pub zoned-level-spec : {M : Type 1} → statement M
-zoned-level-spec =
-    tie.close (tie.spec (λ c κs. search rules) (λ c. let e = c.lvs-zoned-level.ensures in zoned_into_lem _ _ _ _ _ _ _ e.0 e.1.0 e.1.1.0 e.1.1.1))
+pub zoned_level_spec : {M : Type 1} → statement M
+zoned_level_spec =
+    tie.close (tie.spec (λ c κs. search rules) (λ c. let e = c.lvs_zoned_level.ensures in zoned_into_lem _ _ _ _ _ _ _ e.0 e.1.0 e.1.1.0 e.1.1.1))

@@ -10,5 +10,5 @@ returns : tie.Need-returns
 returns c = let e = c.reach.ensures in
     record { answer = ap (λ (a : ReachAnswer). a.number) e ∙ number_is _; positions = ap (λ (a : ReachAnswer). a.positions) e; bytes = refl }
 
-pub reach-spec : {M : Type 1} → statement M
-reach-spec = tie.close (tie.spec (λ c κs. search rules) returns)
+pub reach_spec : {M : Type 1} → statement M
+reach_spec = tie.close (tie.spec (λ c κs. search rules) returns)

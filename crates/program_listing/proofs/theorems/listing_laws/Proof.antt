@@ -11,5 +11,5 @@ use Rattle.program_listing.proofs.theorems.listing_laws.Tie as tie
 laws : ListingLaws
 laws = record { whole = whole; some = some; none = next_none; done = done; few = few; read = λ s. taken_printed s input_room (lit< tt) }
 
-pub listing-laws-spec : {M : Type 1} → statement M
-listing-laws-spec = tie.close (tie.spec (λ c. (refl, laws)))
+pub listing_laws_spec : {M : Type 1} → statement M
+listing_laws_spec = tie.close (tie.spec (λ c. (refl, laws)))

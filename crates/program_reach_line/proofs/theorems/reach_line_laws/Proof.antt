@@ -4,5 +4,5 @@ use Rattle.program_reach_line.proofs.Laws.{laws}
 use Rattle.program_reach_line.proofs.theorems.reach_line_laws.Statement.{statement}
 use Rattle.program_reach_line.proofs.theorems.reach_line_laws.Tie as tie
 
-pub reach-line-laws-spec : {M : Type 1} → statement M
-reach-line-laws-spec = tie.close (tie.spec (λ c. (refl, laws)))
+pub reach_line_laws_spec : {M : Type 1} → statement M
+reach_line_laws_spec = tie.close (tie.spec (λ c. (refl, laws)))

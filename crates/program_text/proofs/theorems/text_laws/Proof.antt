@@ -10,5 +10,5 @@ laws : TextLaws
 unfolding spelled natural decimal field line refused_line
 laws = record { spells = natural_spells; negative = λ n h. (refl, natural_spells _ h); none = refl; minus_seven = refl; largest = refl; least = refl; pixel = refl; refusal = refl }
 
-pub text-laws-spec : {M : Type 1} → statement M
-text-laws-spec = tie.close (tie.spec (λ c. (refl, laws)))
+pub text_laws_spec : {M : Type 1} → statement M
+text_laws_spec = tie.close (tie.spec (λ c. (refl, laws)))

@@ -4,5 +4,5 @@ use Rattle.sheet_assembly.proofs.Assembled.{assembly_laws}
 use Rattle.sheet_assembly.proofs.theorems.assembly_laws.Statement.{statement}
 use Rattle.sheet_assembly.proofs.theorems.assembly_laws.Tie as tie
 
-pub assembly-laws-spec : {M : Type 1} → statement M
-assembly-laws-spec = tie.close (tie.spec (λ c. (refl, assembly_laws)))
+pub assembly_laws_spec : {M : Type 1} → statement M
+assembly_laws_spec = tie.close (tie.spec (λ c. (refl, assembly_laws)))

@@ -4,5 +4,5 @@ use Rattle.sheet_calls.proofs.WellFormed.{accepted_laws}
 use Rattle.sheet_calls.proofs.theorems.accepted_laws.Statement.{statement}
 use Rattle.sheet_calls.proofs.theorems.accepted_laws.Tie as tie
 
-pub accepted-laws-spec : {M : Type 1} → statement M
-accepted-laws-spec = tie.close (tie.spec (λ c. (refl, accepted_laws)))
+pub accepted_laws_spec : {M : Type 1} → statement M
+accepted_laws_spec = tie.close (tie.spec (λ c. (refl, accepted_laws)))

@@ -4,5 +4,5 @@ use Rattle.sheet_calls.proofs.Chains.{call_numbers}
 use Rattle.sheet_calls.proofs.theorems.call_numbers.Statement.{statement}
 use Rattle.sheet_calls.proofs.theorems.call_numbers.Tie as tie
 
-pub call-numbers-spec : {M : Type 1} → statement M
-call-numbers-spec = tie.close (tie.spec (λ c. (refl, call_numbers)))
+pub call_numbers_spec : {M : Type 1} → statement M
+call_numbers_spec = tie.close (tie.spec (λ c. (refl, call_numbers)))

@@ -4,5 +4,5 @@ use Rattle.sheet_calls.proofs.Conditions.{condition_laws}
 use Rattle.sheet_calls.proofs.theorems.condition_laws.Statement.{statement}
 use Rattle.sheet_calls.proofs.theorems.condition_laws.Tie as tie
 
-pub condition-laws-spec : {M : Type 1} → statement M
-condition-laws-spec = tie.close (tie.spec (λ c. (refl, condition_laws)))
+pub condition_laws_spec : {M : Type 1} → statement M
+condition_laws_spec = tie.close (tie.spec (λ c. (refl, condition_laws)))

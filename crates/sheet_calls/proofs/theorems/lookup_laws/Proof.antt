@@ -4,5 +4,5 @@ use Rattle.sheet_calls.proofs.Lookup.{lookup_laws}
 use Rattle.sheet_calls.proofs.theorems.lookup_laws.Statement.{statement}
 use Rattle.sheet_calls.proofs.theorems.lookup_laws.Tie as tie
 
-pub lookup-laws-spec : {M : Type 1} → statement M
-lookup-laws-spec = tie.close (tie.spec (λ c. (refl, lookup_laws)))
+pub lookup_laws_spec : {M : Type 1} → statement M
+lookup_laws_spec = tie.close (tie.spec (λ c. (refl, lookup_laws)))

@@ -4,5 +4,5 @@ use Rattle.sheet_calls.proofs.Setting.{setting_laws}
 use Rattle.sheet_calls.proofs.theorems.setting_laws.Statement.{statement}
 use Rattle.sheet_calls.proofs.theorems.setting_laws.Tie as tie
 
-pub setting-laws-spec : {M : Type 1} → statement M
-setting-laws-spec = tie.close (tie.spec (λ c. (refl, setting_laws)))
+pub setting_laws_spec : {M : Type 1} → statement M
+setting_laws_spec = tie.close (tie.spec (λ c. (refl, setting_laws)))

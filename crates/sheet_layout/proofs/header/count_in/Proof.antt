@@ -4,6 +4,6 @@ use Rattle.sheet_layout.specs.Format.{count_in}
 use Rattle.sheet_layout.proofs.header.count_in.Statement.{statement}
 use Rattle.sheet_layout.proofs.header.count_in.Tie as tie
 
-pub count-in-spec : {M : Type 1} → statement M
+pub count_in_spec : {M : Type 1} → statement M
 unfolding count_in
-count-in-spec = tie.close (tie.spec (λ c. refl))
+count_in_spec = tie.close (tie.spec (λ c. refl))

@@ -5,6 +5,6 @@ use Rattle.sheet_layout.specs.Format.{marked}
 use Rattle.sheet_layout.proofs.header.marked.Statement.{statement}
 use Rattle.sheet_layout.proofs.header.marked.Tie as tie
 
-pub marked-spec : {M : Type 1} → statement M
+pub marked_spec : {M : Type 1} → statement M
 unfolding marked
-marked-spec = tie.close (tie.spec (λ c. search rules) (λ c. search rules) (λ c. search rules) (λ c. refl))
+marked_spec = tie.close (tie.spec (λ c. search rules) (λ c. search rules) (λ c. search rules) (λ c. refl))

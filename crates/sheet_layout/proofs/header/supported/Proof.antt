@@ -4,6 +4,6 @@ use Rattle.sheet_layout.specs.Format.{supported}
 use Rattle.sheet_layout.proofs.header.supported.Statement.{statement}
 use Rattle.sheet_layout.proofs.header.supported.Tie as tie
 
-pub supported-spec : {M : Type 1} → statement M
+pub supported_spec : {M : Type 1} → statement M
 unfolding supported
-supported-spec = tie.close (tie.spec (λ c. refl))
+supported_spec = tie.close (tie.spec (λ c. refl))

@@ -6,9 +6,9 @@ use Rattle.sheet_layout.proofs.NeighbourLaws.{one_less}
 use Rattle.sheet_layout.proofs.neighbours.previous.Statement.{statement}
 use Rattle.sheet_layout.proofs.neighbours.previous.Tie as tie
 
-returns : tie.Need-returns
+returns : tie.Need-returns-then-k-eq0
 unfolding previous
-returns c = rw c.if1.true refl
+returns c = rw c.if-k-eq0.true refl
 
-pub previous-spec : {M : Type 1} → statement M
-previous-spec = tie.close (tie.spec (λ c. search rules) returns (λ c. one_less _))
+pub previous_spec : {M : Type 1} → statement M
+previous_spec = tie.close (tie.spec (λ c. search rules) returns (λ c. one_less _))

@@ -9,8 +9,8 @@ use Rattle.sheet_layout.proofs.ranges.node_in_range.Tie as tie
 returns : tie.Need-returns
 unfolding node_in height_in slope_in
 returns c = let s = c.before.before.before in
-    rw (c.before.before.in-range.ensures, c.before.in-range2.ensures, c.in-range3.ensures)
-    (ap node_in (back s.fits.height s.fits.x-slope s.fits.y-slope))
+    rw (c.before.before.in_range.ensures, c.before.in_range-2.ensures, c.in_range-3.ensures)
+    (ap node_in (back s.fits.height s.fits.x_slope s.fits.y_slope))
 
-pub node-in-range-spec : {M : Type 1} → statement M
-node-in-range-spec = tie.close (tie.spec (λ c κs. search rules) (λ c κs. search rules) (λ c κs. search rules) returns)
+pub node_in_range_spec : {M : Type 1} → statement M
+node_in_range_spec = tie.close (tie.spec (λ c κs. search rules) (λ c κs. search rules) (λ c κs. search rules) returns)

@@ -7,7 +7,7 @@ use Rattle.sheet_layout.proofs.ranges.some_node_out.Tie as tie
 
 returns : tie.Need-returns
 returns c =
-    c.some-word-out.ensures ∙ rw (c.before.before.nodes-offset.ensures.0, c.before.node-count.ensures.0) (some_out _)
+    c.some_word_out.ensures ∙ rw (c.before.before.nodes_offset.ensures.0, c.before.node_count.ensures.0) (some_out _)
 
-pub some-node-out-spec : {M : Type 1} → statement M
-some-node-out-spec = tie.close (tie.spec (λ c κs. search rules) (λ c κs. search rules) (λ c. search rules) (λ c κs. search rules) returns)
+pub some_node_out_spec : {M : Type 1} → statement M
+some_node_out_spec = tie.close (tie.spec (λ c κs. search rules) (λ c κs. search rules) (λ c. search rules) (λ c κs. search rules) returns)

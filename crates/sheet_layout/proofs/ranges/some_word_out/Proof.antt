@@ -10,13 +10,13 @@ use Rattle.sheet_layout.proofs.Gathered.{gathered, gathered_all}
 use Rattle.sheet_layout.proofs.ranges.some_word_out.Statement.{statement}
 use Rattle.sheet_layout.proofs.ranges.some_word_out.Tie as tie
 
-abbrev invariant-loop : tie.invariant-loop
+abbrev invariant-loop : tie.invariant-loop-k
 invariant-loop sheet start count wrong₀ k₀ wrong k = (k ≤ count) × (wrong ≡ some (λ i. not (slope_in (signed (word_at sheet (start + 2 * i))))) k)
 
-abbrev decreases-loop : tie.decreases-loop
+abbrev decreases-loop : tie.decreases-loop-k
 decreases-loop sheet start count wrong₀ k₀ wrong k = count - k
 
-loop-holds : tie.Need-loop-init invariant-loop decreases-loop
+loop-holds : tie.Need-loop-k-init invariant-loop decreases-loop
 unfolding some
 loop-holds c = (search rules, refl)
 
@@ -24,19 +24,19 @@ loop-holds c = (search rules, refl)
 word-requires : tie.Need-word-requires invariant-loop decreases-loop
 word-requires c κs = search rules
 
-word-in-range-requires : tie.Need-word-in-range-requires invariant-loop decreases-loop
+word-in-range-requires : tie.Need-word_in_range-requires invariant-loop decreases-loop
 word-in-range-requires c κs = c.word.ensures.1
 
-loop-again : tie.Need-loop-preserved invariant-loop decreases-loop
+loop-again : tie.Need-loop-k-preserved invariant-loop decreases-loop
 loop-again c =
     let d = c.before.before.before in
-    (search rules, gathered _ _ _ _ d.loop.invariant.1 (ap not (c.word-in-range.ensures ∙ ap (λ w. slope_in (signed w)) c.before.word.ensures.0)))
+    (search rules, gathered _ _ _ _ d.loop-k.invariant.1 (ap not (c.word_in_range.ensures ∙ ap (λ w. slope_in (signed w)) c.before.word.ensures.0)))
 
 returns : tie.Need-returns invariant-loop decreases-loop
-returns c = gathered_all _ _ _ _ c.before.loop.invariant.0 c.loop-test.false c.before.loop.invariant.1
+returns c = gathered_all _ _ _ _ c.before.loop-k.invariant.0 c.loop-k-test.false c.before.loop-k.invariant.1
 
-pub some-word-out-spec : {M : Type 1} → statement M
-some-word-out-spec =
+pub some_word_out_spec : {M : Type 1} → statement M
+some_word_out_spec =
     tie.close
     (tie.spec
     invariant-loop

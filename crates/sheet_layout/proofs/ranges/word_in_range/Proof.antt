@@ -4,7 +4,7 @@ use Rattle.sheet_layout.proofs.ranges.word_in_range.Statement.{statement}
 use Rattle.sheet_layout.proofs.ranges.word_in_range.Tie as tie
 
 returns : tie.Need-returns
-returns c = bits_in _ c.pre
+returns c = bits_in _ c.requires
 
-pub word-in-range-spec : {M : Type 1} → statement M
-word-in-range-spec = tie.close (tie.spec returns)
+pub word_in_range_spec : {M : Type 1} → statement M
+word_in_range_spec = tie.close (tie.spec returns)

@@ -4,5 +4,5 @@ use Rattle.sheet_layout.proofs.Encoding.{encoding_laws}
 use Rattle.sheet_layout.proofs.theorems.encoding_laws.Statement.{statement}
 use Rattle.sheet_layout.proofs.theorems.encoding_laws.Tie as tie
 
-pub encoding-laws-spec : {M : Type 1} → statement M
-encoding-laws-spec = tie.close (tie.spec (λ c. (refl, encoding_laws)))
+pub encoding_laws_spec : {M : Type 1} → statement M
+encoding_laws_spec = tie.close (tie.spec (λ c. (refl, encoding_laws)))

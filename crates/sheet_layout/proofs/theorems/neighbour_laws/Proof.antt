@@ -4,5 +4,5 @@ use Rattle.sheet_layout.proofs.NeighbourLaws.{neighbour_laws}
 use Rattle.sheet_layout.proofs.theorems.neighbour_laws.Statement.{statement}
 use Rattle.sheet_layout.proofs.theorems.neighbour_laws.Tie as tie
 
-pub neighbour-laws-spec : {M : Type 1} → statement M
-neighbour-laws-spec = tie.close (tie.spec (λ c. (refl, neighbour_laws)))
+pub neighbour_laws_spec : {M : Type 1} → statement M
+neighbour_laws_spec = tie.close (tie.spec (λ c. (refl, neighbour_laws)))

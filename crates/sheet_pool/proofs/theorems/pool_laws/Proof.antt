@@ -4,5 +4,5 @@ use Rattle.sheet_pool.proofs.Laws.{pool_laws}
 use Rattle.sheet_pool.proofs.theorems.pool_laws.Statement.{statement}
 use Rattle.sheet_pool.proofs.theorems.pool_laws.Tie as tie
 
-pub pool-laws-spec : {M : Type 1} → statement M
-pool-laws-spec = tie.close (tie.spec (λ c. (refl, pool_laws)))
+pub pool_laws_spec : {M : Type 1} → statement M
+pool_laws_spec = tie.close (tie.spec (λ c. (refl, pool_laws)))

@@ -4,5 +4,5 @@ use Rattle.sheet_reach.proofs.Laws.{reach_laws}
 use Rattle.sheet_reach.proofs.theorems.reach_laws.Statement.{statement}
 use Rattle.sheet_reach.proofs.theorems.reach_laws.Tie as tie
 
-pub reach-laws-spec : {M : Type 1} → statement M
-reach-laws-spec = tie.close (tie.spec (λ c. (refl, reach_laws)))
+pub reach_laws_spec : {M : Type 1} → statement M
+reach_laws_spec = tie.close (tie.spec (λ c. (refl, reach_laws)))

@@ -4,5 +4,5 @@ use Rattle.sheet_slopes.proofs.Laws.{slope_laws}
 use Rattle.sheet_slopes.proofs.theorems.slope_laws.Statement.{statement}
 use Rattle.sheet_slopes.proofs.theorems.slope_laws.Tie as tie
 
-pub slope-laws-spec : {M : Type 1} → statement M
-slope-laws-spec = tie.close (tie.spec (λ c. (refl, slope_laws)))
+pub slope_laws_spec : {M : Type 1} → statement M
+slope_laws_spec = tie.close (tie.spec (λ c. (refl, slope_laws)))

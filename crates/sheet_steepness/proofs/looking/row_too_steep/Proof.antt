@@ -10,34 +10,34 @@ use Rattle.sheet_slopes.specs.Slopes.{too_steep}
 use Rattle.sheet_steepness.proofs.looking.row_too_steep.Statement.{statement}
 use Rattle.sheet_steepness.proofs.looking.row_too_steep.Tie as tie
 
-abbrev invariant-loop : tie.invariant-loop
+abbrev invariant-loop : tie.invariant-loop-column
 invariant-loop sheet stiffness row count steep₀ column₀ steep column = (column ≤ count) × (steep ≡ some (λ i. too_steep sheet stiffness i row) column)
 
-abbrev decreases-loop : tie.decreases-loop
+abbrev decreases-loop : tie.decreases-loop-column
 decreases-loop sheet stiffness row count steep₀ column₀ steep column = count - column
 
-loop-holds : tie.Need-loop-init invariant-loop decreases-loop
+loop-holds : tie.Need-loop-column-init invariant-loop decreases-loop
 unfolding some
 loop-holds c = (omega arith, refl)
 
-too-steep-requires : tie.Need-too-steep-requires invariant-loop decreases-loop
+too-steep-requires : tie.Need-too_steep-found-requires invariant-loop decreases-loop
 too-steep-requires c κs =
     let d = c.before.before in
     let p = d.before.before.requires in
-    (p.0, p.1, omega (arith, c.loop-test.true, d.columns.ensures.0), p.2)
+    (p.0, p.1, omega (arith, c.loop-column-test.true, d.columns-count.ensures.0), p.2)
 
-loop-again : tie.Need-loop-preserved invariant-loop decreases-loop
+loop-again : tie.Need-loop-column-preserved invariant-loop decreases-loop
 loop-again c =
     let d = c.before.before in
-    (search rules, gathered _ _ _ _ d.loop.invariant.1 c.too-steep.ensures)
+    (search rules, gathered _ _ _ _ d.loop-column.invariant.1 c.too_steep-found.ensures)
 
 returns : tie.Need-returns invariant-loop decreases-loop
 returns c =
     let d = c.before in
-    gathered_all _ _ _ _ d.loop.invariant.0 c.loop-test.false d.loop.invariant.1 ∙ ap (some _) d.before.columns.ensures.0
+    gathered_all _ _ _ _ d.loop-column.invariant.0 c.loop-column-test.false d.loop-column.invariant.1 ∙ ap (some _) d.before.columns-count.ensures.0
 
-pub row-too-steep-spec : {M : Type 1} → statement M
-row-too-steep-spec =
+pub row_too_steep_spec : {M : Type 1} → statement M
+row_too_steep_spec =
     tie.close
     (tie.spec
     invariant-loop

@@ -20,20 +20,20 @@ module _ (c : tie.Start) where
   abbrev risen : Operand
   risen = known w64 c.requires.0 tt
 
-returns : tie.Need-returns
+returns : tie.Need-returns-then-stiffened-divisor
 returns c =
     let s = c.before.before in
-    let low = at_most (stored w64 (lowest s) tt) (risen s) c.before.if1.true in
-    let high = at_most (risen s) (stored w64 (highest s) tt) c.if2.true in
+    let low = at_most (stored w64 (lowest s) tt) (risen s) c.before.if-divisor-stiffened.true in
+    let high = at_most (risen s) (stored w64 (highest s) tt) c.if-stiffened-divisor.true in
     ap not (sym (in_range_rounded _ _ s.requires.1.positive low high))
 
-returns-2 : tie.Need-returns-2
+returns-2 : tie.Need-returns
 returns-2 c =
     let p = c.before.before.requires in
-    ap not (in_range _ ∙ ap slope_in (unchanged w64 c.round.type-inv ∙ c.round.ensures ∙ quotient_is (refl, p.0) (refl, p.1, p.2)))
+    ap not (in_range _ ∙ ap slope_in (unchanged w64 c.round-slope.type_inv ∙ c.round-slope.ensures ∙ quotient_is (refl, p.0) (refl, p.1, p.2)))
 
-pub steep-spec : {M : Type 1} → statement M
-steep-spec =
+pub steep_spec : {M : Type 1} → statement M
+steep_spec =
     tie.close
     (tie.spec
     (λ c. asks w64 (lowest c) tt)

@@ -12,10 +12,10 @@ use Rattle.sheet_steepness.proofs.looking.too_steep.Tie as tie
 well_formed : (c : tie.Start) → WellFormed c.args.sheet.now
 well_formed c = accepted_laws.sound _ c.requires.0
 
-x-divisor-requires : tie.Need-x-divisor-requires
+x-divisor-requires : tie.Need-x_divisor-requires
 x-divisor-requires c κs = let s = c.before.before in let w = well_formed s in (w.whole, w.rising_x, w.few_columns, s.requires.2)
 
-y-divisor-requires : tie.Need-y-divisor-requires
+y-divisor-requires : tie.Need-y_divisor-requires
 y-divisor-requires c κs =
     let s = c.before.before.before.before.before in
     let w = well_formed s in
@@ -26,18 +26,18 @@ returns : tie.Need-returns
 unfolding slope_along filled_x filled_y too_steep
 returns c =
     let b = c.before.before.before in
-    let x = b.steep.ensures ∙ ap (λ z. not (slope_in z)) (quotient_is b.before.before.x-stiffened.ensures b.before.x-divisor.ensures) in
-    let y = c.steep2.ensures ∙ ap (λ z. not (slope_in z)) (quotient_is c.before.before.y-stiffened.ensures c.before.y-divisor.ensures) in
+    let x = b.steep-along_x.ensures ∙ ap (λ z. not (slope_in z)) (quotient_is b.before.before.x_stiffened.ensures b.before.x_divisor.ensures) in
+    let y = c.steep-along_y.ensures ∙ ap (λ z. not (slope_in z)) (quotient_is c.before.before.y_stiffened.ensures c.before.y_divisor.ensures) in
     λ i. x i || y i
 
-pub too-steep-spec : {M : Type 1} → statement M
-too-steep-spec =
+pub too_steep_spec : {M : Type 1} → statement M
+too_steep_spec =
     tie.close
     (tie.spec
     (λ c κs. let p = c.before.requires in (nodes_there _ p.0, p.1, p.2, p.3))
     x-divisor-requires
-    (λ c κs. handed_on c.before.x-stiffened.ensures c.x-divisor.ensures)
+    (λ c κs. handed_on c.before.x_stiffened.ensures c.x_divisor.ensures)
     (λ c κs. let p = c.before.before.before.before.requires in (nodes_there _ p.0, p.1, p.2, p.3))
     y-divisor-requires
-    (λ c κs. handed_on c.before.y-stiffened.ensures c.y-divisor.ensures)
+    (λ c κs. handed_on c.before.y_stiffened.ensures c.y_divisor.ensures)
     returns)

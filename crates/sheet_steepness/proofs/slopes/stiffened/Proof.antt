@@ -18,5 +18,5 @@ module _ (c : tie.Start) where
 returns : tie.Need-returns
 returns c = let e = gives w64 (product c) tt in (e, subst⁻¹ (λ z. z within (2 ^ 28)) e (product c).bounded)
 
-pub stiffened-spec : {M : Type 1} → statement M
-stiffened-spec = tie.close (tie.spec (λ c. search rules) (λ c. asks w64 (difference c) tt) (λ c. asks w64 (product c) tt) returns)
+pub stiffened_spec : {M : Type 1} → statement M
+stiffened_spec = tie.close (tie.spec (λ c. search rules) (λ c. asks w64 (difference c) tt) (λ c. asks w64 (product c) tt) returns)

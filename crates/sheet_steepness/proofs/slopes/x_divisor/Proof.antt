@@ -14,7 +14,7 @@ divisor-requires c κs =
 
 returns : tie.Need-returns
 returns c =
-    divisor_is c.before.before.before.args.sheet.now x_lines_offset _ _ refl c.before.columns.ensures.0 c.divisor.ensures c.divisor.type-inv
+    divisor_is c.before.before.before.args.sheet.now x_lines_offset _ _ refl c.before.columns.ensures.0 c.divisor.ensures c.divisor.type_inv
 
-pub x-divisor-spec : {M : Type 1} → statement M
-x-divisor-spec = tie.close (tie.spec (λ c κs. search rules) divisor-requires returns)
+pub x_divisor_spec : {M : Type 1} → statement M
+x_divisor_spec = tie.close (tie.spec (λ c κs. search rules) divisor-requires returns)

@@ -13,21 +13,21 @@ use Rattle.sheet_steepness.proofs.slopes.x_stiffened.Tie as tie
 next-is : (c : tie.After-next) → let a = c.before.before.before.args in c.next.result ≡ next (columns a.sheet.now) a.column
 next-is c = c.next.ensures ∙ ap (λ n. next n c.before.before.before.args.column) c.before.columns.ensures.0
 
-height-requires : tie.Need-height-requires
+height-requires : tie.Need-height-after-requires
 height-requires c κs = let p = c.before.before.before.requires in (p.0, rw (next-is c) (next-< _ _ p.2), p.3)
 
-height-requires-2 : tie.Need-height-requires-2
+height-requires-2 : tie.Need-height-before-requires
 height-requires-2 c κs = let s = c.before.before.before.before.before in (s.requires.0, lt_of_le_of_lt (rw c.previous.ensures (previous-≤ _)) s.requires.2, s.requires.3)
 
 returns : tie.Need-returns
 returns c =
     let d = c.before in
     let s = d.before.before.before.before.before.before in
-    rise_is _ _ (λ k. height_at s.args.sheet.now k s.args.row) _ d.before.before.height.ensures (next-is d.before.before.before)
-    d.height2.ensures d.before.previous.ensures c.stiffened.ensures c.stiffened.type-inv
+    rise_is _ _ (λ k. height_at s.args.sheet.now k s.args.row) _ d.before.before.height-after.ensures (next-is d.before.before.before)
+    d.height-before.ensures d.before.previous.ensures c.stiffened.ensures c.stiffened.type_inv
 
-pub x-stiffened-spec : {M : Type 1} → statement M
-x-stiffened-spec =
+pub x_stiffened_spec : {M : Type 1} → statement M
+x_stiffened_spec =
     tie.close
     (tie.spec
     (λ c κs. search rules)
@@ -35,5 +35,5 @@ x-stiffened-spec =
     height-requires
     (λ c κs. search rules)
     height-requires-2
-    (λ c κs. let d = c.before.before in heights_on d.before.before.before.before.requires.1 d.height.ensures.1 c.height2.ensures.1)
+    (λ c κs. let d = c.before.before in heights_on d.before.before.before.before.requires.1 d.height-after.ensures.1 c.height-before.ensures.1)
     returns)

@@ -8,13 +8,13 @@ use Rattle.sheet_steepness.proofs.slopes.y_divisor.Tie as tie
 divisor-requires : tie.Need-divisor-requires
 divisor-requires c κs =
     let s = c.before.before.before in
-    let o = c.before.y-lines-offset.ensures.0 in
+    let o = c.before.y_lines_offset.ensures.0 in
     lines_there s.args.sheet.now _ _ _ (omega (arith, s.requires.0)) s.requires.1 s.requires.2 s.requires.3 o c.rows.ensures.0
 
 returns : tie.Need-returns
 returns c =
     let o = c.before.before in
-    divisor_is o.before.before.args.sheet.now _ _ _ o.y-lines-offset.ensures.0 c.before.rows.ensures.0 c.divisor.ensures c.divisor.type-inv
+    divisor_is o.before.before.args.sheet.now _ _ _ o.y_lines_offset.ensures.0 c.before.rows.ensures.0 c.divisor.ensures c.divisor.type_inv
 
-pub y-divisor-spec : {M : Type 1} → statement M
-y-divisor-spec = tie.close (tie.spec (λ c κs. search rules) (λ c κs. search rules) divisor-requires returns)
+pub y_divisor_spec : {M : Type 1} → statement M
+y_divisor_spec = tie.close (tie.spec (λ c κs. search rules) (λ c κs. search rules) divisor-requires returns)

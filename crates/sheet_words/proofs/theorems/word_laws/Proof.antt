@@ -4,5 +4,5 @@ use Rattle.sheet_words.proofs.Laws.{word_laws}
 use Rattle.sheet_words.proofs.theorems.word_laws.Statement.{statement}
 use Rattle.sheet_words.proofs.theorems.word_laws.Tie as tie
 
-pub word-laws-spec : {M : Type 1} → statement M
-word-laws-spec = tie.close (tie.spec (λ c. (refl, word_laws)))
+pub word_laws_spec : {M : Type 1} → statement M
+word_laws_spec = tie.close (tie.spec (λ c. (refl, word_laws)))

@@ -4,5 +4,5 @@ use Rattle.sheet_zones.proofs.Laws.{limit_laws}
 use Rattle.sheet_zones.proofs.theorems.limit_laws.Statement.{statement}
 use Rattle.sheet_zones.proofs.theorems.limit_laws.Tie as tie
 
-pub limit-laws-spec : {M : Type 1} → statement M
-limit-laws-spec = tie.close (tie.spec (λ c. (refl, limit_laws)))
+pub limit_laws_spec : {M : Type 1} → statement M
+limit_laws_spec = tie.close (tie.spec (λ c. (refl, limit_laws)))

@@ -4,5 +4,5 @@ use Rattle.sheet_zones.proofs.Laws.{list_laws}
 use Rattle.sheet_zones.proofs.theorems.list_laws.Statement.{statement}
 use Rattle.sheet_zones.proofs.theorems.list_laws.Tie as tie
 
-pub list-laws-spec : {M : Type 1} → statement M
-list-laws-spec = tie.close (tie.spec (λ c. (refl, list_laws)))
+pub list_laws_spec : {M : Type 1} → statement M
+list_laws_spec = tie.close (tie.spec (λ c. (refl, list_laws)))

@@ -6,17 +6,17 @@ use Rattle.sheet_zoning.proofs.Refusal.{zones_answer}
 use Rattle.sheet_zoning.proofs.list.zones_refusal.Statement.{statement}
 use Rattle.sheet_zoning.proofs.list.zones_refusal.Tie as tie
 
-returns : tie.Need-returns
+returns : tie.Need-returns-then-size
 unfolding other_zones_length
-returns c = zones_answer _ (sym c.if1.true) refl
+returns c = zones_answer _ (sym c.if-size.true) refl
 
-returns-2 : tie.Need-returns-2
+returns-2 : tie.Need-returns-then-some_wrong
 unfolding other_zones_length
-returns-2 c = zones_answer _ (sym c.before.before.if1.false) (sym c.if2.true ∙ c.before.some-wrong.ensures)
+returns-2 c = zones_answer _ (sym c.before.before.if-size.false) (sym c.if-some_wrong.true ∙ c.before.some_wrong.ensures)
 
-returns-3 : tie.Need-returns-3
+returns-3 : tie.Need-returns
 unfolding other_zones_length
-returns-3 c = zones_answer _ (sym c.before.before.if1.false) (sym c.if2.false ∙ c.before.some-wrong.ensures)
+returns-3 c = zones_answer _ (sym c.before.before.if-size.false) (sym c.if-some_wrong.false ∙ c.before.some_wrong.ensures)
 
-pub zones-refusal-spec : {M : Type 1} → statement M
-zones-refusal-spec = tie.close (tie.spec returns (λ c κs. search rules) returns-2 returns-3)
+pub zones_refusal_spec : {M : Type 1} → statement M
+zones_refusal_spec = tie.close (tie.spec returns (λ c κs. search rules) returns-2 returns-3)

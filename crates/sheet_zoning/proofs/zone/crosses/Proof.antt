@@ -7,7 +7,7 @@ use Rattle.sheet_zoning.proofs.zone.crosses.Tie as tie
 
 returns : tie.Need-returns
 unfolding zone_in crosses
-returns c = rw (c.before.word.ensures.0, c.word2.ensures.0) refl
+returns c = rw (c.before.word.ensures.0, c.word-2.ensures.0) refl
 
-pub crosses-spec : {M : Type 1} → statement M
-crosses-spec = tie.close (tie.spec (λ c. search rules) (λ c. search rules) (λ c κs. search rules) (λ c. search rules) (λ c κs. search rules) returns)
+pub crosses_spec : {M : Type 1} → statement M
+crosses_spec = tie.close (tie.spec (λ c. search rules) (λ c. search rules) (λ c κs. search rules) (λ c. search rules) (λ c κs. search rules) returns)

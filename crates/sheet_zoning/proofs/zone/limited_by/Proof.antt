@@ -10,12 +10,12 @@ use Rattle.sheet_zoning.proofs.zone.limited_by.Tie as tie
 returns : tie.Need-returns
 unfolding zone_in
 returns c = let r = c.before in let g = r.before in let f = g.before in let s = f.before.before in
-    let floor = unchanged w32 f.limit.type-inv ∙ f.limit.ensures in
-    let ceiling = unchanged w32 g.limit2.type-inv ∙ g.limit2.ensures in
-    let up = unchanged w32 r.raised.type-inv ∙ r.raised.ensures ∙ (λ t. raised (floor t) ((any w32 s.ranges.level).reads t)) in
-    unchanged w32 c.lowered.type-inv ∙ c.lowered.ensures ∙ (λ t. lowered (ceiling t) (up t))
+    let floor = unchanged w32 f.limit-floor.type_inv ∙ f.limit-floor.ensures in
+    let ceiling = unchanged w32 g.limit-ceiling.type_inv ∙ g.limit-ceiling.ensures in
+    let up = unchanged w32 r.raised.type_inv ∙ r.raised.ensures ∙ (λ t. raised (floor t) ((any w32 s.ranges.level).reads t)) in
+    unchanged w32 c.lowered.type_inv ∙ c.lowered.ensures ∙ (λ t. lowered (ceiling t) (up t))
 
-pub limited-by-spec : {M : Type 1} → statement M
-limited-by-spec =
+pub limited_by_spec : {M : Type 1} → statement M
+limited_by_spec =
     tie.close
     (tie.spec (λ c. search rules) (λ c. search rules) (λ c κs. search rules) (λ c. search rules) (λ c κs. search rules) (λ c κs. search rules) (λ c κs. search rules) returns)

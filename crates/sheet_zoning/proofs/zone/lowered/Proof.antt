@@ -12,11 +12,11 @@ limit s = any w32 s.ranges.limit
 abbrev level : tie.Start → Operand
 level s = any w32 s.ranges.level
 
-returns : tie.Need-returns
-returns c = let s = c.before in (limit s).reads ∙ sym (above _ _ (less (limit s) (level s) c.if1.true))
+returns : tie.Need-returns-then-limit-level
+returns c = let s = c.before in (limit s).reads ∙ sym (above _ _ (less (limit s) (level s) c.if-limit-level.true))
 
-returns-2 : tie.Need-returns-2
-returns-2 c = let s = c.before in (level s).reads ∙ sym (not_above_lem _ _ (not_less (limit s) (level s) c.if1.false))
+returns-2 : tie.Need-returns-else-limit-level
+returns-2 c = let s = c.before in (level s).reads ∙ sym (not_above_lem _ _ (not_less (limit s) (level s) c.if-limit-level.false))
 
-pub lowered-spec : {M : Type 1} → statement M
-lowered-spec = tie.close (tie.spec returns returns-2)
+pub lowered_spec : {M : Type 1} → statement M
+lowered_spec = tie.close (tie.spec returns returns-2)

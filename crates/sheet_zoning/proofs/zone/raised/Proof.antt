@@ -12,11 +12,11 @@ limit s = any w32 s.ranges.limit
 abbrev level : tie.Start → Operand
 level s = any w32 s.ranges.level
 
-returns : tie.Need-returns
-returns c = let s = c.before in (limit s).reads ∙ sym (below _ _ (less (level s) (limit s) c.if1.true))
+returns : tie.Need-returns-then-level-limit
+returns c = let s = c.before in (limit s).reads ∙ sym (below _ _ (less (level s) (limit s) c.if-level-limit.true))
 
-returns-2 : tie.Need-returns-2
-returns-2 c = let s = c.before in (level s).reads ∙ sym (not_below_lem _ _ (not_less (level s) (limit s) c.if1.false))
+returns-2 : tie.Need-returns-else-level-limit
+returns-2 c = let s = c.before in (level s).reads ∙ sym (not_below_lem _ _ (not_less (level s) (limit s) c.if-level-limit.false))
 
-pub raised-spec : {M : Type 1} → statement M
-raised-spec = tie.close (tie.spec returns returns-2)
+pub raised_spec : {M : Type 1} → statement M
+raised_spec = tie.close (tie.spec returns returns-2)

@@ -15,16 +15,16 @@ use Rattle.sheet_zoning.proofs.zone.wrong.Tie as tie
 returns : tie.Need-returns
 unfolding zone_in slope_in limit_in wrong_zone
 returns c = let u = c.before.before in let q = u.before.before in let p = q.before in let e = p.before in
-    let ceiling = c.word-in-range2.ensures ∙ ap (λ w. slope_in (signed w)) c.before.word6.ensures.0 in
-    let floor = u.word-in-range.ensures ∙ ap (λ w. slope_in (signed w)) u.before.word5.ensures.0 in
-    let highest = unchanged w64 p.signed_word.type-inv ∙ p.signed_word.ensures.0 in
-    let lowest = unchanged w64 q.signed-word2.type-inv ∙ q.signed-word2.ensures.0 in
+    let ceiling = c.word_in_range-ceiling_out.ensures ∙ ap (λ w. slope_in (signed w)) c.before.word-6.ensures.0 in
+    let floor = u.word_in_range-floor_out.ensures ∙ ap (λ w. slope_in (signed w)) u.before.word-5.ensures.0 in
+    let highest = unchanged w64 p.signed_word.type_inv ∙ p.signed_word.ensures.0 in
+    let lowest = unchanged w64 q.signed_word-2.type_inv ∙ q.signed_word-2.ensures.0 in
     let r = e.before.before.before in
-    λ t. ltb (r.word.ensures.0 t) (e.before.before.word2.ensures.0 t) || ltb (e.before.word3.ensures.0 t) (e.word4.ensures.0 t)
+    λ t. ltb (r.word.ensures.0 t) (e.before.before.word-2.ensures.0 t) || ltb (e.before.word-3.ensures.0 t) (e.word-4.ensures.0 t)
     || lt_z (highest t) (lowest t) || not (floor t) || not (ceiling t)
 
-pub wrong-spec : {M : Type 1} → statement M
-wrong-spec =
+pub wrong_spec : {M : Type 1} → statement M
+wrong_spec =
     tie.close
     (tie.spec
     (λ c. search rules) (λ c. search rules) (λ c κs. search rules) (λ c κs. search rules)

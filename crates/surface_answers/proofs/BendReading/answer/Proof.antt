@@ -9,8 +9,8 @@ returns : tie.Need-returns
 unfolding outcome answered
 returns c = let h = c.before.before.before.before.before.before.requires in rw (divides 2 _ h.0, divides 2 _ h.1, divides 2 _ h.2) refl
 
-pub answer-spec : {M : Type 1} → statement M
-answer-spec = tie.close (tie.spec
+pub answer_spec : {M : Type 1} → statement M
+answer_spec = tie.close (tie.spec
     (λ c. in_float _ c.before.before.requires.0)
     (λ c. in_float _ c.before.before.before.before.requires.1)
     (λ c. in_float _ c.before.before.before.before.before.before.requires.2)

@@ -9,5 +9,5 @@ returns : tie.Need-returns
 unfolding outcome answered
 returns c = rw (divides 0 _ c.before.before.requires) refl
 
-pub answer-spec : {M : Type 1} → statement M
-answer-spec = tie.close (tie.spec (λ c. in_float _ c.before.before.requires) returns)
+pub answer_spec : {M : Type 1} → statement M
+answer_spec = tie.close (tie.spec (λ c. in_float _ c.before.before.requires) returns)

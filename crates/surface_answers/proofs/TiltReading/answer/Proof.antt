@@ -9,5 +9,5 @@ returns : tie.Need-returns
 unfolding outcome answered
 returns c = let h = c.before.before.before.before.requires in rw (divides 1 _ h.0, divides 1 _ h.1) refl
 
-pub answer-spec : {M : Type 1} → statement M
-answer-spec = tie.close (tie.spec (λ c. in_float _ c.before.before.requires.0) (λ c. in_float _ c.before.before.before.before.requires.1) returns)
+pub answer_spec : {M : Type 1} → statement M
+answer_spec = tie.close (tie.spec (λ c. in_float _ c.before.before.requires.0) (λ c. in_float _ c.before.before.before.before.requires.1) returns)

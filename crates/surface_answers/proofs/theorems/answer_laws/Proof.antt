@@ -4,5 +4,5 @@ use Rattle.surface_answers.proofs.Told.{answer_laws}
 use Rattle.surface_answers.proofs.theorems.answer_laws.Statement.{statement}
 use Rattle.surface_answers.proofs.theorems.answer_laws.Tie as tie
 
-pub answer-laws-spec : {M : Type 1} → statement M
-answer-laws-spec = tie.close (tie.spec (λ c. (refl, answer_laws)))
+pub answer_laws_spec : {M : Type 1} → statement M
+answer_laws_spec = tie.close (tie.spec (λ c. (refl, answer_laws)))

@@ -4,5 +4,5 @@ use Rattle.surface_answers.proofs.Quotients.{quotient_laws}
 use Rattle.surface_answers.proofs.theorems.quotient_laws.Statement.{statement}
 use Rattle.surface_answers.proofs.theorems.quotient_laws.Tie as tie
 
-pub quotient-laws-spec : {M : Type 1} → statement M
-quotient-laws-spec = tie.close (tie.spec (λ c. (refl, quotient_laws)))
+pub quotient_laws_spec : {M : Type 1} → statement M
+quotient_laws_spec = tie.close (tie.spec (λ c. (refl, quotient_laws)))

@@ -4,5 +4,5 @@ use Rattle.sheet_calls.proofs.Rules.{rule_laws}
 use Rattle.surface_bends.proofs.theorems.rule_laws.Statement.{statement}
 use Rattle.surface_bends.proofs.theorems.rule_laws.Tie as tie
 
-pub rule-laws-spec : {M : Type 1} → statement M
-rule-laws-spec = tie.close (tie.spec (λ c. (refl, rule_laws)))
+pub rule_laws_spec : {M : Type 1} → statement M
+rule_laws_spec = tie.close (tie.spec (λ c. (refl, rule_laws)))

@@ -4,5 +4,5 @@ use Rattle.surface_bends.proofs.Laws.{touching_laws}
 use Rattle.surface_bends.proofs.theorems.touching_laws.Statement.{statement}
 use Rattle.surface_bends.proofs.theorems.touching_laws.Tie as tie
 
-pub touching-laws-spec : {M : Type 1} → statement M
-touching-laws-spec = tie.close (tie.spec (λ c. (refl, touching_laws)))
+pub touching_laws_spec : {M : Type 1} → statement M
+touching_laws_spec = tie.close (tie.spec (λ c. (refl, touching_laws)))

@@ -4,5 +4,5 @@ use Rattle.surface_of_sheet.proofs.AtNodes.{at_nodes}
 use Rattle.surface_of_sheet.proofs.theorems.at_nodes.Statement.{statement}
 use Rattle.surface_of_sheet.proofs.theorems.at_nodes.Tie as tie
 
-pub at-nodes-spec : {M : Type 1} → statement M
-at-nodes-spec = tie.close (tie.spec (λ c. (refl, at_nodes)))
+pub at_nodes_spec : {M : Type 1} → statement M
+at_nodes_spec = tie.close (tie.spec (λ c. (refl, at_nodes)))

@@ -4,5 +4,5 @@ use Rattle.surface_of_sheet.proofs.CellsAlong.{cell_laws}
 use Rattle.surface_of_sheet.proofs.theorems.cell_laws.Statement.{statement}
 use Rattle.surface_of_sheet.proofs.theorems.cell_laws.Tie as tie
 
-pub cell-laws-spec : {M : Type 1} → statement M
-cell-laws-spec = tie.close (tie.spec (λ c. (refl, cell_laws)))
+pub cell_laws_spec : {M : Type 1} → statement M
+cell_laws_spec = tie.close (tie.spec (λ c. (refl, cell_laws)))

@@ -4,5 +4,5 @@ use Rattle.surface_of_sheet.proofs.HalfUnits.{half_units}
 use Rattle.surface_of_sheet.proofs.theorems.half_units.Statement.{statement}
 use Rattle.surface_of_sheet.proofs.theorems.half_units.Tie as tie
 
-pub half-units-spec : {M : Type 1} → statement M
-half-units-spec = tie.close (tie.spec (λ c. (refl, half_units)))
+pub half_units_spec : {M : Type 1} → statement M
+half_units_spec = tie.close (tie.spec (λ c. (refl, half_units)))

@@ -4,5 +4,5 @@ use Rattle.surface_of_sheet.proofs.SameCells.{mesh_laws}
 use Rattle.surface_of_sheet.proofs.theorems.mesh_laws.Statement.{statement}
 use Rattle.surface_of_sheet.proofs.theorems.mesh_laws.Tie as tie
 
-pub mesh-laws-spec : {M : Type 1} → statement M
-mesh-laws-spec = tie.close (tie.spec (λ c. (refl, mesh_laws)))
+pub mesh_laws_spec : {M : Type 1} → statement M
+mesh_laws_spec = tie.close (tie.spec (λ c. (refl, mesh_laws)))

@@ -4,5 +4,5 @@ use Rattle.surface_of_sheet.proofs.Places.{place_laws}
 use Rattle.surface_of_sheet.proofs.theorems.place_laws.Statement.{statement}
 use Rattle.surface_of_sheet.proofs.theorems.place_laws.Tie as tie
 
-pub place-laws-spec : {M : Type 1} → statement M
-place-laws-spec = tie.close (tie.spec (λ c. (refl, place_laws)))
+pub place_laws_spec : {M : Type 1} → statement M
+place_laws_spec = tie.close (tie.spec (λ c. (refl, place_laws)))

@@ -4,5 +4,5 @@ use Rattle.surface_of_sheet.proofs.Sets.{shared_edges}
 use Rattle.surface_of_sheet.proofs.theorems.shared_edges.Statement.{statement}
 use Rattle.surface_of_sheet.proofs.theorems.shared_edges.Tie as tie
 
-pub shared-edges-spec : {M : Type 1} → statement M
-shared-edges-spec = tie.close (tie.spec (λ c. (refl, shared_edges)))
+pub shared_edges_spec : {M : Type 1} → statement M
+shared_edges_spec = tie.close (tie.spec (λ c. (refl, shared_edges)))

@@ -4,5 +4,5 @@ use Rattle.surface_of_sheet.proofs.Sets.{the_set}
 use Rattle.surface_of_sheet.proofs.theorems.the_set.Statement.{statement}
 use Rattle.surface_of_sheet.proofs.theorems.the_set.Tie as tie
 
-pub the-set-spec : {M : Type 1} → statement M
-the-set-spec = tie.close (tie.spec (λ c. (refl, the_set)))
+pub the_set_spec : {M : Type 1} → statement M
+the_set_spec = tie.close (tie.spec (λ c. (refl, the_set)))

@@ -4,5 +4,5 @@ use Rattle.surface_of_sheet.proofs.Touching.{touching}
 use Rattle.surface_of_sheet.proofs.theorems.touching.Statement.{statement}
 use Rattle.surface_of_sheet.proofs.theorems.touching.Tie as tie
 
-pub touching-spec : {M : Type 1} → statement M
-touching-spec = tie.close (tie.spec (λ c. (refl, touching)))
+pub touching_spec : {M : Type 1} → statement M
+touching_spec = tie.close (tie.spec (λ c. (refl, touching)))

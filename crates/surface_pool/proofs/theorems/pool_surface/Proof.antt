@@ -4,5 +4,5 @@ use Rattle.surface_pool.proofs.Levels.{pool_surface}
 use Rattle.surface_pool.proofs.theorems.pool_surface.Statement.{statement}
 use Rattle.surface_pool.proofs.theorems.pool_surface.Tie as tie
 
-pub pool-surface-spec : {M : Type 1} → statement M
-pool-surface-spec = tie.close (tie.spec (λ c. (refl, pool_surface)))
+pub pool_surface_spec : {M : Type 1} → statement M
+pool_surface_spec = tie.close (tie.spec (λ c. (refl, pool_surface)))

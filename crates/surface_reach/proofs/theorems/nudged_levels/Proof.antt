@@ -4,5 +4,5 @@ use Rattle.surface_reach.proofs.Laws.{nudged_levels}
 use Rattle.surface_reach.proofs.theorems.nudged_levels.Statement.{statement}
 use Rattle.surface_reach.proofs.theorems.nudged_levels.Tie as tie
 
-pub nudged-levels-spec : {M : Type 1} → statement M
-nudged-levels-spec = tie.close (tie.spec (λ c. (refl, nudged_levels)))
+pub nudged_levels_spec : {M : Type 1} → statement M
+nudged_levels_spec = tie.close (tie.spec (λ c. (refl, nudged_levels)))

@@ -4,5 +4,5 @@ use Rattle.surface_zones.proofs.Examples.{examples}
 use Rattle.surface_zones.proofs.theorems.examples.Statement.{statement}
 use Rattle.surface_zones.proofs.theorems.examples.Tie as tie
 
-pub examples-spec : {M : Type 1} → statement M
-examples-spec = tie.close (tie.spec (λ c. (refl, examples)))
+pub examples_spec : {M : Type 1} → statement M
+examples_spec = tie.close (tie.spec (λ c. (refl, examples)))

@@ -4,5 +4,5 @@ use Rattle.surface_zones.proofs.Laws.{zoned_laws}
 use Rattle.surface_zones.proofs.theorems.zoned_laws.Statement.{statement}
 use Rattle.surface_zones.proofs.theorems.zoned_laws.Tie as tie
 
-pub zoned-laws-spec : {M : Type 1} → statement M
-zoned-laws-spec = tie.close (tie.spec (λ c. (refl, zoned_laws)))
+pub zoned_laws_spec : {M : Type 1} → statement M
+zoned_laws_spec = tie.close (tie.spec (λ c. (refl, zoned_laws)))
