@@ -23,7 +23,7 @@ LIBRARIES = ("Rattle.std", "Rattle.core", "Rattle.io", "Rattle.libc", "Rattle.os
 
 def new_name(n):
     """The spelling of today of a name of this repository."""
-    if n[0].isupper() and "-" not in n:
+    if n[0].isupper() and "-" not in n or "◌" in n:
         return n
     parts = n.split("-")
     out = parts[0]

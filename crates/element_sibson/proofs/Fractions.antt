@@ -14,7 +14,7 @@ use Rattle.integers.proofs.Polynomial.{var, #◌, ◌⊕◌, ◌⊗◌}
 use Rattle.integers.proofs.Solve.{Claim, ◌≐◌, ◌≼◌}
 use Rattle.integers.proofs.Deduce.{◌·◌, ◌⊨◌, deduce, certified_sound}
 use Rattle.integers.proofs.Order.{*ℤ_cancel_r, ≤ℤ_cancel_r, *ℤ_mono_r, pos_nonneg, ≤ℤ_antisym, ≤ℤ_of_eq, ≤ℤ_or->, <ℤ→≤ℤ, not_le_z}
-use Rattle.element_sibson.proofs.Quote.{Quotient, wholeₑ, complementₑ, ◌+ₑ◌, ◌_ₑ◌, ◌*ₑ◌, ◌·ₑ◌, ◌÷ₑ◌, ◌≈ₑ◌, ◌≤ₑ◌, equal, fractionₑ, fraction}
+use Rattle.element_sibson.proofs.Quote.{Quotient, wholeₑ, complementₑ, ◌+ₑ◌, ◌-ₑ◌, ◌*ₑ◌, ◌·ₑ◌, ◌÷ₑ◌, ◌≈ₑ◌, ◌≤ₑ◌, equal, fractionₑ, fraction}
 
 -- ---- variables: four fractions
 

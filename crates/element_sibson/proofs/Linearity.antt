@@ -16,7 +16,7 @@ use Rattle.integers.proofs.Solve.{◌≐◌}
 use Rattle.integers.proofs.Deduce.{◌·◌, certified_sound}
 use Rattle.integers.proofs.Order.{*ℤ_cancel_r}
 use Rattle.element_sibson.proofs.Fractions.{≈_sym, ≈_trans}
-use Rattle.element_sibson.proofs.Quote.{complementₑ, Quotient, wholeₑ, ◌+ₑ◌, ◌_ₑ◌, ◌*ₑ◌, ◌·ₑ◌, ◌÷ₑ◌, valueₑ, by_rₑ, by_sₑ, squareₑ, equal, anyₑ, rₑ, any, ◌≈ₑ◌, nil, fractionₑ, fraction}
+use Rattle.element_sibson.proofs.Quote.{complementₑ, Quotient, wholeₑ, ◌+ₑ◌, ◌-ₑ◌, ◌*ₑ◌, ◌·ₑ◌, ◌÷ₑ◌, valueₑ, by_rₑ, by_sₑ, squareₑ, equal, anyₑ, rₑ, any, ◌≈ₑ◌, nil, fractionₑ, fraction}
 
 -- the size of the cell across a piece's edge
 abbrev across : Cell → Piece → Positive

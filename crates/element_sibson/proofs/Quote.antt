@@ -16,7 +16,7 @@ use Rattle.element_sibson.specs.Element.{column, exchange}
 -- ---- fractions
 
 infix 20 ◌≈ₑ◌ ◌≤ₑ◌
-infixl 60 ◌+ₑ◌ ◌_ₑ◌
+infixl 60 ◌+ₑ◌ ◌-ₑ◌
 infixl 70 ◌*ₑ◌ ◌·ₑ◌ ◌÷ₑ◌
 infix 80 ◌/ₑ◌
 pub record Quotient : Type 0 where
@@ -41,7 +41,7 @@ c ·ₑ x = (c ⊗ x.num) /ₑ x.den
 abbrev pub ◌÷ₑ◌ : Quotient → Expr → Quotient
 x ÷ₑ n = x.num /ₑ (x.den ⊗ n)
 
-abbrev pub ◌_ₑ◌ : Quotient → Quotient → Quotient
+abbrev pub ◌-ₑ◌ : Quotient → Quotient → Quotient
 x -ₑ y = x +ₑ ⊖ # 1 ·ₑ y
 
 abbrev pub ◌≈ₑ◌ : Quotient → Quotient → Claim

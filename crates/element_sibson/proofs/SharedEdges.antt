@@ -11,7 +11,7 @@ use Rattle.element_sibson.specs.Theorems.{length_of, first, last, AgreeAlong, Ed
 use Rattle.integers.proofs.Polynomial.{Expr, #◌, ◌⊕◌, ◌⊗◌, ⊖◌}
 use Rattle.element_sibson.proofs.Fractions.{≈-÷}
 use Rattle.element_sibson.proofs.Jets.{≋_sym, ≋_trans}
-use Rattle.element_sibson.proofs.Quote.{complementₑ, Quotient, wholeₑ, ◌+ₑ◌, ◌_ₑ◌, ◌*ₑ◌, ◌·ₑ◌, ◌÷ₑ◌, Cubicₑ, by_rₑ, by_sₑ, Jetₑ, decided, jets, evaluated}
+use Rattle.element_sibson.proofs.Quote.{complementₑ, Quotient, wholeₑ, ◌+ₑ◌, ◌-ₑ◌, ◌*ₑ◌, ◌·ₑ◌, ◌÷ₑ◌, Cubicₑ, by_rₑ, by_sₑ, Jetₑ, decided, jets, evaluated}
 use Rattle.element_sibson.proofs.Evaluate.{numerator, cubes, common, value_is, commonₑ}
 use Rattle.element_sibson.proofs.QuoteElement.{Cornersₑ, sibsonₑ, numbersₑ}
 use Rattle.element_sibson.proofs.Meetings.{Wₑ, Hₑ, tₑ, given}

@@ -7,7 +7,7 @@ use Rattle.integers.proofs.Solve.{◌≐◌}
 use Rattle.integers.proofs.Deduce.{◌·◌, ◌⊨◌, deduce, certified_sound}
 use Rattle.element_sibson.specs.Fraction.{Positive, positive, ℚ, ◌≈◌, ◌+ℚ◌, ◌-ℚ◌, ◌·ℚ◌, ◌÷◌, whole}
 use Rattle.element_sibson.specs.Cubic.{Cell, Point, Cubic, Power, one, r¹, s¹, r², rs, s², r³, r²s, rs², s³, coefficient, ◌≅◌, value, by_r, by_s, jet, ◌≋◌, bend}
-use Rattle.element_sibson.proofs.Quote.{Quotient, wholeₑ, ◌+ₑ◌, ◌_ₑ◌, ◌·ₑ◌, ◌÷ₑ◌, ◌≈ₑ◌, equal, fractionₑ, fraction}
+use Rattle.element_sibson.proofs.Quote.{Quotient, wholeₑ, ◌+ₑ◌, ◌-ₑ◌, ◌·ₑ◌, ◌÷ₑ◌, ◌≈ₑ◌, equal, fractionₑ, fraction}
 use Rattle.element_sibson.proofs.Jets.{≋_sym, ≋_trans, ◌⊟◌}
 use Rattle.element_sibson.proofs.Difference.{difference, coefficient_difference, jet_difference, same_everywhere}
 use Rattle.element_sums.specs.Sums.{◌+ⱼ◌, SumOf}

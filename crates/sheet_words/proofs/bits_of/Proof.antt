@@ -12,7 +12,7 @@ use Rattle.sheet_words.proofs.bits_of.Reads as reads
 use Rattle.sheet_words.proofs.bits_of.Lts as lts
 
 -- the number handed over, and in the first branch the sum
-module _ (c : lts.Then1 reads.Pre reads.Post) where
+module _ (c : lts.Then-x-lt0 reads.Pre reads.Post) where
   abbrev low : Operand
   low = known w32 c.before.requires tt
 
@@ -22,7 +22,7 @@ module _ (c : lts.Then1 reads.Pre reads.Post) where
   sum_bits : Bits sum.number (bits_of c.before.args.x)
   sum_bits = negative _ c.before.requires (less low (literal (pos 0)) c.if-x-lt0.true)
 
-module _ (c : lts.Else1 reads.Pre reads.Post) where
+module _ (c : lts.Else-x-lt0 reads.Pre reads.Post) where
   abbrev high : Operand
   high = known w32 c.before.requires tt
 
