@@ -18,28 +18,28 @@ module _ (s : tie.Start) where
 
   -- those of the pieces ks are stored, one behind the other, up to index i of l
   abbrev Pieces : List Piece → List ℤ → ℕ → Type 0
-  Pieces ks l i = Stored s.args.list-1.now s.args.at (foldl (λ done k. done ++ bends k) [] ks) l i
+  Pieces ks l i = Stored s.args.list.now s.args.at (foldl (λ done k. done ++ bends k) [] ks) l i
 
   four : foldl (λ done k. done ++ bends k) [] (top ∷ right ∷ bottom ∷ left ∷ []) ≡ cell_bends (corners s.args.n) s.args.p
   unfolding cell_bends flat_map
   four = rw (append-nil, append_assoc, append_assoc) refl
 
-one : (c : tie.After-piece_bends-second) → Pieces c.before.before (top ∷ []) c.piece_bends-second.new.1.1.1.0 c.piece_bends-second.result
+one : (c : tie.After-piece_bends-second) → Pieces c.before.before (top ∷ []) c.piece_bends-second.new.list c.piece_bends-second.result
 unfolding piece_of
 one c = goes_on none_stored _ c.piece_bends-second.ensures
 
-two : (c : tie.After-piece_bends-third) → Pieces c.before.before.before.before.before (top ∷ right ∷ []) c.piece_bends-third.new.1.1.1.0 c.piece_bends-third.result
+two : (c : tie.After-piece_bends-third) → Pieces c.before.before.before.before.before (top ∷ right ∷ []) c.piece_bends-third.new.list c.piece_bends-third.result
 unfolding piece_of
 two c = goes_on (one c.before.before.before) _ c.piece_bends-third.ensures
 
 three : (c : tie.After-piece_bends-fourth) →
-    Pieces c.before.before.before.before.before.before.before.before (top ∷ right ∷ bottom ∷ []) c.piece_bends-fourth.new.1.1.1.0 c.piece_bends-fourth.result
+    Pieces c.before.before.before.before.before.before.before.before (top ∷ right ∷ bottom ∷ []) c.piece_bends-fourth.new.list c.piece_bends-fourth.result
 unfolding piece_of
 three c = goes_on (two c.before.before.before) _ c.piece_bends-fourth.ensures
 
 piece-bends-requires : tie.Need-piece_bends-second-requires
 unfolding piece_of cell_bends flat_map
-piece-bends-requires c κs = let s = c.before in let h = s.requires in (h.0, h.1, fits {l₀ = s.args.list-1.now} none_stored (bends s top) (flat_map (bends s) (right ∷ bottom ∷ left ∷ [])) h.2)
+piece-bends-requires c κs = let s = c.before in let h = s.requires in (h.0, h.1, fits {l₀ = s.args.list.now} none_stored (bends s top) (flat_map (bends s) (right ∷ bottom ∷ left ∷ [])) h.2)
 
 piece-bends-requires-2 : tie.Need-piece_bends-third-requires
 unfolding piece_of cell_bends flat_map

@@ -11,7 +11,7 @@ use Rattle.element_corners.proofs.corner_numbers.Tie as tie
 
 -- what the call for a corner requires
 required : (s : tie.Start) (c : Corner) →
-    ((corners s.args.t1 c).x_slope within 4095) × ((corners s.args.t1 c).y_slope within 4095) × Side s.args.width × Side s.args.height
+    ((corners s.args.nodes c).x_slope within 4095) × ((corners s.args.nodes c).y_slope within 4095) × Side s.args.width × Side s.args.height
 required s c = (s.requires.0.x_slopes c, s.requires.0.y_slopes c, s.requires.1, s.requires.2)
 
 pub corner_numbers_spec : {M : Type 1} → statement M

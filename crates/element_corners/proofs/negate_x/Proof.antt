@@ -18,7 +18,7 @@ sub-t9 c = asks w64 (negated c.before.before) tt
 
 returns : tie.Need-returns
 unfolding jet_of three negate_x
-returns c i = let s = c.before.before.before in let k = kept s.args.t1 s.well_formed.0 in k 0 i ∷ gives w64 (negated s) tt i ∷ k 2 i ∷ []
+returns c i = let s = c.before.before.before in let k = kept s.args.c s.well_formed.0 in k 0 i ∷ gives w64 (negated s) tt i ∷ k 2 i ∷ []
 
 pub negate_x_spec : {M : Type 1} → statement M
 negate_x_spec = tie.close (tie.spec (λ c. lit< tt) (λ c. lit< tt) sub-t9 (λ c. lit< tt) returns)

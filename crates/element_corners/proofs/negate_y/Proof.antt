@@ -18,7 +18,7 @@ sub-t12 c = asks w64 (negated c.before.before.before) tt
 
 returns : tie.Need-returns
 unfolding jet_of three negate_y
-returns c i = let s = c.before.before.before in let k = kept s.args.t1 s.well_formed.0 in k 0 i ∷ k 1 i ∷ gives w64 (negated s) tt i ∷ []
+returns c i = let s = c.before.before.before in let k = kept s.args.c s.well_formed.0 in k 0 i ∷ k 1 i ∷ gives w64 (negated s) tt i ∷ []
 
 pub negate_y_spec : {M : Type 1} → statement M
 negate_y_spec = tie.close (tie.spec (λ c. lit< tt) (λ c. lit< tt) (λ c. lit< tt) sub-t12 returns)

@@ -32,9 +32,9 @@ mul-t17 c = asks w64 (down c.before) tt
 returns : tie.Need-returns
 unfolding jet_of three numbers_of corner_numbers cell
 returns c i = let d = c.before in let a = d.before.before in let s = a.before.before in
-    kept s.args.t1 s.well_formed.0 0 i ∷
-    (gives w64 (across a) tt ∙ (λ j. pos (sym (side_is s.requires.2) j) *ℤ (jet_of s.args.t1).x_slope)) i ∷
-    (gives w64 (down d) tt ∙ (λ j. pos (sym (side_is s.requires.3) j) *ℤ (jet_of s.args.t1).y_slope)) i ∷ []
+    kept s.args.c s.well_formed.0 0 i ∷
+    (gives w64 (across a) tt ∙ (λ j. pos (sym (side_is s.requires.2) j) *ℤ (jet_of s.args.c).x_slope)) i ∷
+    (gives w64 (down d) tt ∙ (λ j. pos (sym (side_is s.requires.3) j) *ℤ (jet_of s.args.c).y_slope)) i ∷ []
 
 pub scaled_spec : {M : Type 1} → statement M
 scaled_spec = tie.close (tie.spec

@@ -9,7 +9,7 @@ use Rattle.element_corners.proofs.swap.Tie as tie
 
 returns : tie.Need-returns
 unfolding jet_of three swap
-returns c i = let s = c.before.before.before in let k = kept s.args.t1 s.well_formed.0 in k 0 i ∷ k 2 i ∷ k 1 i ∷ []
+returns c i = let s = c.before.before.before in let k = kept s.args.c s.well_formed.0 in k 0 i ∷ k 2 i ∷ k 1 i ∷ []
 
 pub swap_spec : {M : Type 1} → statement M
 swap_spec = tie.close (tie.spec (λ c. lit< tt) (λ c. lit< tt) (λ c. lit< tt) returns)

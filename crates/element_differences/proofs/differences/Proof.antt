@@ -21,13 +21,13 @@ module _ (l : tie.After-length-a) where
   next = stored w64 (a ⊞ literal (pos 1)) tt
 
   abbrev c₁ : Operand
-  c₁ = known w64 (linear l.before.args.t1 l.before.requires.1) tt
+  c₁ = known w64 (linear l.before.args.row l.before.requires.1) tt
 
   abbrev c₂ : Operand
-  c₂ = known w64 (quadratic l.before.args.t1 l.before.requires.1) tt
+  c₂ = known w64 (quadratic l.before.args.row l.before.requires.1) tt
 
   abbrev c₃ : Operand
-  c₃ = known w64 (leading l.before.args.t1 l.before.requires.1) tt
+  c₃ = known w64 (leading l.before.args.row l.before.requires.1) tt
 
   -- c₁ + c₂ (a + next) + c₃ (3 a next + 1)
   abbrev twice : Operand
@@ -67,7 +67,7 @@ latest c = later c.before.before
 
 returns : tie.Need-returns
 unfolding differences
-returns c = let v = c.before.before.before.before.before.before in let l = v.before in let row = l.before.args.t1 in let o = l.before.args.offset in λ i.
+returns c = let v = c.before.before.before.before.before.before in let l = v.before in let row = l.before.args.row in let o = l.before.args.offset in λ i.
     (returned w64 v.at_offset.ensures (at_offset_within row l.before.requires.1 l.before.requires.0) tt).reads i ∷
     (gives w64 (first l) tt ∙ first_is row o) i ∷
     (gives w64 (second l) tt ∙ second_is row o) i ∷

@@ -31,7 +31,7 @@ module _ (c : tie.In-loop-i invariant-loop decreases-loop) where
   power = start.args.power
 
   abbrev n : List (List ℤ)
-  n = start.args.t3
+  n = start.args.n
 
   abbrev i : ℕ
   i = c.before.loop-i.i
@@ -48,7 +48,7 @@ module _ (c : tie.In-loop-i invariant-loop decreases-loop) where
 
   abbrev before : Operand
   before = record {
-    read = to_z w64 c.before.loop-i.sum-1;
+    read = to_z w64 c.before.loop-i.sum;
     number = sum_of n table power i;
     bound = 72 * largest;
     reads = c.before.loop-i.invariant.1;
@@ -71,7 +71,7 @@ loop-again c = let l = c.before.before in (search rules, gives w64 (after l) tt 
 returns : tie.Need-returns invariant-loop decreases-loop
 returns c p e = let s = c.before.before in let l = c.before.loop-i in
     let ended : ◌≡◌ {A = ℕ} l.i 12 = search rules in
-    l.invariant.1 ∙ (λ j. sum_of s.args.t3 (s.requires.0 j) (e j) (ended j)) ∙ all_twelve s.args.t3 p
+    l.invariant.1 ∙ (λ j. sum_of s.args.n (s.requires.0 j) (e j) (ended j)) ∙ all_twelve s.args.n p
 
 pub weighed_spec : {M : Type 1} → statement M
 weighed_spec =

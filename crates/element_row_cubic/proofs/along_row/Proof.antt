@@ -86,7 +86,7 @@ p₃ c = let s = (second (third c.before.before)).before.before.before.before.be
 -- the row over the sides as they are
 row : (s : tie.Start) → let w = s.args.width in let h = s.args.height in let b = s.args.b in
     (pos (w * w * w) *ℤ down (l₀ s) b h) ∷ (pos (w * w) *ℤ down (l₁ s) b h) ∷ (pos w *ℤ down (l₂ s) b h) ∷ down (l₃ s) b h ∷ []
-    ≡ along_row (cell w h) (halves s.args.t1) b
+    ≡ along_row (cell w h) (halves s.args.k) b
 unfolding halves cell down along_row
 row s = sym (λ i. let w = side_is s.requires.1 i in let h = side_is s.requires.2 i in let b = s.args.b in
     (pos (w * w * w) *ℤ down (l₀ s) b h) ∷ (pos (w * w) *ℤ down (l₁ s) b h) ∷ (pos w *ℤ down (l₂ s) b h) ∷ down (l₃ s) b h ∷ [])

@@ -13,22 +13,22 @@ a l = let s = l.before in returned w64 l.length-a.ensures (length_within s.requi
 
 -- from the inmost product outwards
 abbrev p₂ : tie.After-length-a → Operand
-p₂ l = let s = l.before in rebound (a l ⊠ known w64 (c₃ s.args.t1 s.requires.0 s.requires.1) tt) (m₂ s.args.t1 s.requires.0 s.requires.1)
+p₂ l = let s = l.before in rebound (a l ⊠ known w64 (c₃ s.args.row s.requires.0 s.requires.1) tt) (m₂ s.args.row s.requires.0 s.requires.1)
 
 abbrev q₂ : tie.After-length-a → Operand
-q₂ l = let s = l.before in rebound (known w64 (c₂ s.args.t1 s.requires.0 s.requires.1) tt ⊞ stored w64 (p₂ l) tt) (s₂ s.args.t1 s.requires.0 s.requires.1)
+q₂ l = let s = l.before in rebound (known w64 (c₂ s.args.row s.requires.0 s.requires.1) tt ⊞ stored w64 (p₂ l) tt) (s₂ s.args.row s.requires.0 s.requires.1)
 
 abbrev p₁ : tie.After-length-a → Operand
-p₁ l = let s = l.before in rebound (a l ⊠ stored w64 (q₂ l) tt) (m₁ s.args.t1 s.requires.0 s.requires.1)
+p₁ l = let s = l.before in rebound (a l ⊠ stored w64 (q₂ l) tt) (m₁ s.args.row s.requires.0 s.requires.1)
 
 abbrev q₁ : tie.After-length-a → Operand
-q₁ l = let s = l.before in rebound (known w64 (c₁ s.args.t1 s.requires.0 s.requires.1) tt ⊞ stored w64 (p₁ l) tt) (s₁ s.args.t1 s.requires.0 s.requires.1)
+q₁ l = let s = l.before in rebound (known w64 (c₁ s.args.row s.requires.0 s.requires.1) tt ⊞ stored w64 (p₁ l) tt) (s₁ s.args.row s.requires.0 s.requires.1)
 
 abbrev p₀ : tie.After-length-a → Operand
-p₀ l = let s = l.before in rebound (a l ⊠ stored w64 (q₁ l) tt) (m₀ s.args.t1 s.requires.0 s.requires.1)
+p₀ l = let s = l.before in rebound (a l ⊠ stored w64 (q₁ l) tt) (m₀ s.args.row s.requires.0 s.requires.1)
 
 abbrev q₀ : tie.After-length-a → Operand
-q₀ l = let s = l.before in rebound (known w64 (c₀ s.args.t1 s.requires.0 s.requires.1) tt ⊞ stored w64 (p₀ l) tt) (s₀ s.args.t1 s.requires.0 s.requires.1)
+q₀ l = let s = l.before in rebound (known w64 (c₀ s.args.row s.requires.0 s.requires.1) tt ⊞ stored w64 (p₀ l) tt) (s₀ s.args.row s.requires.0 s.requires.1)
 
 abbrev start : tie.After-result-4-1 → tie.After-length-a
 start c = c.before.before.before.before
@@ -48,4 +48,4 @@ at_offset_spec =
     (λ c. asks w64 (q₁ (start c)) tt)
     (λ c. asks w64 (p₀ (start c)) tt)
     (λ c. asks w64 (q₀ (start c)) tt)
-    (λ c. gives w64 (q₀ (start c)) tt ∙ expanded (start c).before.args.t1 (start c).before.requires.0 (start c).before.requires.1))
+    (λ c. gives w64 (q₀ (start c)) tt ∙ expanded (start c).before.args.row (start c).before.requires.0 (start c).before.requires.1))

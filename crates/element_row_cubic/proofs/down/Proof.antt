@@ -14,7 +14,7 @@ use Rattle.element_row_cubic.proofs.down.Statement.{statement}
 use Rattle.element_row_cubic.proofs.down.Tie as tie
 
 abbrev k : tie.After-length-v → ℕ → Operand
-k l i = let s = l.before.before in known w64 (is_within (get_or s.args.t1 i (pos 0)) (le_trans (in_size s.args.t1 i) s.requires.0)) tt
+k l i = let s = l.before.before in known w64 (is_within (get_or s.args.c i (pos 0)) (le_trans (in_size s.args.c i) s.requires.0)) tt
 
 abbrev h : tie.After-length-v → Operand
 h l = returned w64 l.before.length-h.ensures (length_within l.before.before.requires.1.most) tt

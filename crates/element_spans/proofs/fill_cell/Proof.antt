@@ -102,7 +102,7 @@ abbrev levels : List (List ℤ) → Pixel → ℕ → ℤ
 levels n p k = cell_level (corners n) (to_right p k)
 
 module _ (c : tie.After-fill_levels) where
-  row₁ : let a = (start (first c.before)).args in c.fill_levels.new-d.0 ≡ steps (starting_at a.at (levels a.n a.first)) a.at (lefts (first c.before)) a.row-1.now
+  row₁ : let a = (start (first c.before)).args in c.fill_levels.new-d.0 ≡ steps (starting_at a.at (levels a.n a.first)) a.at (lefts (first c.before)) a.row.now
   row₁ = let l = c.before in let s = start (first l) in let a = s.args in let v = (first l).before.before.before.new-d.result.value in
       c.fill_levels.ensures ∙ steps_same _ _ a.at (lefts (first l)) _ (λ k h.
       starting_at_lem a.at _ k
@@ -113,9 +113,9 @@ module _ (c : tie.After-fill_levels) where
 
 module _ (c : tie.After-fill_levels-2) where
   row₂ : let a = (start (second c.before)).args in
-      c.fill_levels-2.new-d.0 ≡ steps (starting_at a.at (levels a.n a.first)) a.at (lefts (second c.before) + (both (second c.before) - lefts (second c.before))) a.row-1.now
+      c.fill_levels-2.new-d.0 ≡ steps (starting_at a.at (levels a.n a.first)) a.at (lefts (second c.before) + (both (second c.before) - lefts (second c.before))) a.row.now
   row₂ = let l = c.before in let s = start (second l) in let a = s.args in
-      starting_more (levels a.n a.first) _ a.at (lefts (second l)) (both (second l) - lefts (second l)) a.row-1.now
+      starting_more (levels a.n a.first) _ a.at (lefts (second l)) (both (second l) - lefts (second l)) a.row.now
       (row₁ l.before.before.before) c.fill_levels-2.ensures (levels_are s.requires.0 s.requires.1 (divisor (second l)) (span₂ l))
 
 fill-levels-requires : tie.Need-fill_levels-requires
@@ -150,10 +150,10 @@ fill-levels-requires-3 c κs = let s = start (third c) in (
 
 returns : tie.Need-returns
 returns c = let l = c.before.before in let b = third l in let s = start b in let a = s.args in let f = levels a.n a.first in
-    starting_more f _ a.at (both b) (a.count - both b) a.row-1.now
-    (row₂ l.before.before.before ∙ ap (λ n. steps (starting_at a.at f) a.at n a.row-1.now) (omega (arith, in_order_lem b)))
+    starting_more f _ a.at (both b) (a.count - both b) a.row.now
+    (row₂ l.before.before.before ∙ ap (λ n. steps (starting_at a.at f) a.at n a.row.now) (omega (arith, in_order_lem b)))
     c.before.fill_levels-3.ensures (levels_are s.requires.0 s.requires.1 (divisor b) (span₃ l))
-    ∙ ap (λ n. steps (starting_at a.at f) a.at n a.row-1.now) (omega (arith, in_order_lem b))
+    ∙ ap (λ n. steps (starting_at a.at f) a.at n a.row.now) (omega (arith, in_order_lem b))
 
 pub fill_cell_spec : {M : Type 1} → statement M
 fill_cell_spec =

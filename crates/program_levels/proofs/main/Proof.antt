@@ -18,7 +18,7 @@ abbrev decreases-loop : tie.decreases-loop-sheet
 decreases-loop n sheet refusal out₀ k₀ out k = text_count sheet - k
 
 -- the text lies within the buffer
-within : (c : tie.After-next_text-end invariant-loop decreases-loop) → c.next_text-end.result ≤ length c.next_text-end.new.1.1.1.0
+within : (c : tie.After-next_text-end invariant-loop decreases-loop) → c.next_text-end.result ≤ length c.next_text-end.new.out
 within c = omega (arith, c.next_text-end.ensures.0, simp length-append at (ap length c.next_text-end.ensures.1))
 
 array-share-prefix-out : tie.Need-slice_bounds-out-end invariant-loop decreases-loop

@@ -41,7 +41,7 @@ line-is c = let s = start c.before in ap refused_line s.requires.0 ∙ sym (line
 
 returns-2 : tie.Need-returns-then-refusal-ne0
 returns-2 c = let d = c.before.before in let t = d.before.before in
-    subst (λ b. AtStart (start t.before).args.out-1.now b d.refused.new.0 d.refused.result) (line-is t) d.refused.ensures
+    subst (λ b. AtStart (start t.before).args.out.now b d.refused.new.out d.refused.result) (line-is t) d.refused.ensures
 
 -- the sheet is accepted
 unrefused : (c : tie.Else-refusal-ne0) → sheet_refusal (sheet c.before) ≡ 0
@@ -66,7 +66,7 @@ row_is c = let s = start c.before.before in
 
 returns-3 : tie.Need-returns
 returns-3 c = let d = c.before.before in let y = d.before.before in
-    subst (λ b. AtStart (start y.before.before).args.out-1.now b d.row_text.new.1.1.0 d.row_text.result) (row_is y) d.row_text.ensures
+    subst (λ b. AtStart (start y.before.before).args.out.now b d.row_text.new.out d.row_text.result) (row_is y) d.row_text.ensures
 
 pub next_text_spec : {M : Type 1} → statement M
 next_text_spec =

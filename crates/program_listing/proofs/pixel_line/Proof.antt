@@ -58,7 +58,7 @@ line-requires c κs = let d = c.before.before.before.before.before in
 returns : tie.Need-returns
 returns c = let d = c.before.before.before.before.before.before.before.before in
     let a = (s d).args in
-    subst (λ b. Written a.out-1.now a.at b c.before.before.line.new.0 c.before.before.line.result) (line_is d)
+    subst (λ b. Written a.out.now a.at b c.before.before.line.new.out c.before.before.line.result) (line_is d)
     c.before.before.line.ensures
 
 pub pixel_line_spec : {M : Type 1} → statement M

@@ -43,7 +43,7 @@ same_length c = let p = c.before.before.before.before.before.before.requires in 
 
 returns : tie.Need-returns invariant-loop decreases-loop
 returns c = let a = c.before.before.before.before.before.before.args in
-    at_start a.out-1.now (row_text a.sheet.now a.y)
+    at_start a.out.now (row_text a.sheet.now a.y)
     (done c.before.loop-x.invariant (subst (λ n. n < c.before.loop-x.x) c.before.before.before.last_column-last.ensures c.loop-x-test.false))
 
 pub row_text_spec : {M : Type 1} → statement M

@@ -9,7 +9,7 @@ use Rattle.program_reach.proofs.main.Statement.{statement}
 use Rattle.program_reach.proofs.main.Tie as tie
 
 -- the line lies within the buffer
-within : (c : tie.After-reach_text-end) → c.reach_text-end.result ≤ length c.reach_text-end.new.1.0
+within : (c : tie.After-reach_text-end) → c.reach_text-end.result ≤ length c.reach_text-end.new.out
 within c = omega (arith, c.reach_text-end.ensures.0, simp length-append at (ap length c.reach_text-end.ensures.1))
 
 slice-aggregate-write-all : tie.Need-slice_bounds-write_all-end

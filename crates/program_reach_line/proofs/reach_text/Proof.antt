@@ -56,8 +56,8 @@ line-requires c κs = let d = c.before.before in (search rules, omega (arith, li
 
 returns : tie.Need-returns-in-Lines
 returns c = let w = c.before.before in let d = w.before.before.before in
-    subst (λ b. AtStart (s d).args.out-1.now b w.line.new.0 w.line.result) (line_is d)
-    (at_start (s d).args.out-1.now (line (numbers d)) w.line.ensures)
+    subst (λ b. AtStart (s d).args.out.now b w.line.new.out w.line.result) (line_is d)
+    (at_start (s d).args.out.now (line (numbers d)) w.line.ensures)
 
 -- ---- a refusal
 
@@ -67,7 +67,7 @@ refused-requires c κs = let s = start c.before.before.before.before in
 
 returns-2 : tie.Need-returns-in-Refused
 returns-2 c = let w = c.before.before in let d = w.before.before.before in let r = d.before.before in
-    subst⁻¹ (λ b. AtStart (start r).args.out-1.now b w.refused.new.0 w.refused.result)
+    subst⁻¹ (λ b. AtStart (start r).args.out.now b w.refused.new.out w.refused.result)
     (refused_printed _ _ (ap told (sym d.answer-in-Refused-1.given.1) ∙ r.reach-answer.ensures)) w.refused.ensures
 
 pub reach_text_spec : {M : Type 1} → statement M

@@ -32,14 +32,14 @@ held c = stored w64 (below c) tt
 negative-text : (c : tie.Then-z-lt0) → decimal c.before.before.args.z ≡ (minus ∷ []) ++ natural (nat_abs (held c).read + 1)
 negative-text c = (is_below c).text ∙ ap (λ n. minus ∷ natural (nat_abs n + 1)) (sym (held c).reads)
 
-room : (c : tie.Then-z-lt0) → let a = c.before.before.args in a.at + length ((minus ∷ []) ++ natural (nat_abs (held c).read + 1)) ≤ length a.out-1.now
-room c = let s = c.before.before in subst (λ b. s.args.at + length b ≤ length s.args.out-1.now) (negative-text c) s.requires
+room : (c : tie.Then-z-lt0) → let a = c.before.before.args in a.at + length ((minus ∷ []) ++ natural (nat_abs (held c).read + 1)) ≤ length a.out.now
+room c = let s = c.before.before in subst (λ b. s.args.at + length b ≤ length s.args.out.now) (negative-text c) s.requires
 
-inside : (c : tie.Then-z-lt0) → let a = c.before.before.args in a.at < length a.out-1.now
+inside : (c : tie.Then-z-lt0) → let a = c.before.before.args in a.at < length a.out.now
 inside c = omega (arith, room c)
 
 natural-requires : tie.Need-natural-requires
-natural-requires c κs = let a = c.before.before.before.args in omega (arith, room c.before, length-set a.out-1.now a.at minus)
+natural-requires c κs = let a = c.before.before.before.args in omega (arith, room c.before, length-set a.out.now a.at minus)
 
 returns : tie.Need-returns-then-z-lt0
 returns c = let d = c.before.before.before.before in
@@ -69,7 +69,7 @@ decimal_spec =
     (λ c. asks_unsigned w64 (held c.before) (is_below c.before).sign tt)
     (λ c. omega (arith, (read_within (held c.before)).bound))
     natural-requires
-    (λ c. let a = c.before.before.before.before.before.before.args in c.before.before.natural.auto.0 ∙ length-set a.out-1.now a.at minus)
+    (λ c. let a = c.before.before.before.before.before.before.args in c.before.before.natural.auto.out ∙ length-set a.out.now a.at minus)
     returns
     (λ c. asks_unsigned w64 (z c.before.before.before) (sign c.before) tt)
     natural-requires-2

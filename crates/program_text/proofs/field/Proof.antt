@@ -12,7 +12,7 @@ use Rattle.program_text.proofs.Written.{Written, last_inside, last_written}
 use Rattle.program_text.proofs.field.Statement.{statement}
 use Rattle.program_text.proofs.field.Tie as tie
 
-room : (s : tie.Start) → s.args.at + length (decimal s.args.z ++ s.args.behind ∷ []) ≤ length s.args.out-1.now
+room : (s : tie.Start) → s.args.at + length (decimal s.args.z ++ s.args.behind ∷ []) ≤ length s.args.out.now
 unfolding field
 room s = s.requires
 
@@ -21,9 +21,9 @@ decimal-requires c κs = let s = c.before.before in
     rw (any w64 s.ranges.z).reads (omega (arith, room s, length-append (decimal s.args.z) (s.args.behind ∷ [])))
 
 -- the number is written
-written : (c : tie.After-decimal-end) → let a = c.before.before.before.args in Written a.out-1.now a.at (decimal a.z) c.decimal-end.new.0 c.decimal-end.result
+written : (c : tie.After-decimal-end) → let a = c.before.before.before.args in Written a.out.now a.at (decimal a.z) c.decimal-end.new.out c.decimal-end.result
 written c = let s = c.before.before.before in
-    subst (λ z. Written s.args.out-1.now s.args.at (decimal z) c.decimal-end.new.0 c.decimal-end.result) (any w64 s.ranges.z).reads c.decimal-end.ensures
+    subst (λ z. Written s.args.out.now s.args.at (decimal z) c.decimal-end.new.out c.decimal-end.result) (any w64 s.ranges.z).reads c.decimal-end.ensures
 
 slice-write-out : tie.Need-bounds-out-end
 slice-write-out c = let d = c.before.before in last_inside _ _ _ _ (room d.before.before.before) (written d)

@@ -58,7 +58,7 @@ module _ (c : tie.After-loop-k invariant-loop decreases-loop) where
   ends : suc (length numbers - 1) ≡ length numbers
   ends = omega (arith, s.requires.0)
 
-  begun : Written s.args.out-1.now s.args.at (fields numbers (length numbers - 1)) c.before.loop-k.out-1 c.before.loop-k.end
+  begun : Written s.args.out.now s.args.at (fields numbers (length numbers - 1)) c.before.loop-k.out c.before.loop-k.end
   begun = let e : c.before.loop-k.k ≡ length numbers - 1 = omega (arith, c.loop-k-test.false) in rw (← e) c.before.loop-k.invariant.1
 
 field-requires-2 : tie.Need-field-requires invariant-loop decreases-loop

@@ -25,31 +25,31 @@ module _ (s : tie.Start) where
   line_is = ap (λ z. refused_word ++ field z newline) n.reads
 
   abbrev Room : List ℕ → Type 0
-  Room b = 0 + length b ≤ length s.args.out-1.now
+  Room b = 0 + length b ≤ length s.args.out.now
 
   room : Room (refused_word ++ field n.read newline)
   room = subst⁻¹ Room line_is (rw (zero-add (length (refused_line s.args.n))) s.requires)
 
-  word_room : 8 ≤ length s.args.out-1.now
+  word_room : 8 ≤ length s.args.out.now
   word_room = omega (arith, room, length-append refused_word (field n.read newline))
 
   -- where the k-th character of the word goes
-  inside : (k : ℕ) → k < 8 → k < length (sets s.args.out-1.now 0 (take k refused_word))
-  inside k h = lt-length-sets s.args.out-1.now 0 (take k refused_word) (omega (arith, word_room))
+  inside : (k : ℕ) → k < 8 → k < length (sets s.args.out.now 0 (take k refused_word))
+  inside k h = lt-length-sets s.args.out.now 0 (take k refused_word) (omega (arith, word_room))
 
-  word_written : Written s.args.out-1.now 0 refused_word (sets s.args.out-1.now 0 refused_word) 8
-  word_written = (refl, sets-eq refused_word s.args.out-1.now 0 word_room)
+  word_written : Written s.args.out.now 0 refused_word (sets s.args.out.now 0 refused_word) 8
+  word_written = (refl, sets-eq refused_word s.args.out.now 0 word_room)
 
 field-requires : tie.Need-field-requires
-field-requires c κs = let s = c.before.before in second_fits s.args.out-1.now _ refused_word (field (n s).read newline) (room s) (word_written s)
+field-requires c κs = let s = c.before.before in second_fits s.args.out.now _ refused_word (field (n s).read newline) (room s) (word_written s)
 
 same_length : tie.Need-shape_of-out
-same_length c = c.before.before.field.auto.0 ∙ length-sets c.before.before.before.before.before.args.out-1.now 0 refused_word
+same_length c = c.before.before.field.auto.out ∙ length-sets c.before.before.before.before.before.args.out.now 0 refused_word
 
 returns : tie.Need-returns
 returns c = let s = c.before.before.before.before.before in
-    at_start s.args.out-1.now (refused_line s.args.n)
-    (subst (λ b. Written s.args.out-1.now 0 b c.before.before.field.new.0 c.before.before.field.result) (line_is s)
+    at_start s.args.out.now (refused_line s.args.n)
+    (subst (λ b. Written s.args.out.now 0 b c.before.before.field.new.out c.before.before.field.result) (line_is s)
     (both_written _ _ refused_word _ (room s) (word_written s) c.before.before.field.ensures))
 
 pub refused_spec : {M : Type 1} → statement M

@@ -16,10 +16,10 @@ module _ (c : tie.After-put_slopes-arg-1) where
   abbrev s : tie.Start
   s = c.before.before.before.before.before.before.before.before
 
-  x_in : slope_in (filled_x s.args.sheet-1.now s.args.stiffness s.args.column s.args.row) ≡ true
+  x_in : slope_in (filled_x s.args.sheet.now s.args.stiffness s.args.column s.args.row) ≡ true
   x_in = s.requires.0.slopes_x s.args.column s.args.row s.requires.1 s.requires.2
 
-  y_in : slope_in (filled_y s.args.sheet-1.now s.args.stiffness s.args.column s.args.row) ≡ true
+  y_in : slope_in (filled_y s.args.sheet.now s.args.stiffness s.args.column s.args.row) ≡ true
   y_in = s.requires.0.slopes_y s.args.column s.args.row s.requires.1 s.requires.2
 
 put-slopes-requires : tie.Need-put_slopes-requires
@@ -36,7 +36,7 @@ returns c =
     let x = narrow_is d.before.before.before.before.before.x_slope-along_x.ensures (x_in d) in
     let y = narrow_is d.before.before.before.y_slope-along_y.ensures (y_in d) in
     let at = d.before.node_offset-at.ensures.0 in
-    c.before.before.put_slopes.ensures ∙ (λ i. replaced (s d).args.sheet-1.now (at i + height_size) (slope_bytes (x i) (y i)))
+    c.before.before.put_slopes.ensures ∙ (λ i. replaced (s d).args.sheet.now (at i + height_size) (slope_bytes (x i) (y i)))
 
 pub fill_node_spec : {M : Type 1} → statement M
 fill_node_spec =

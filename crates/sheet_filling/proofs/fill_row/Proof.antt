@@ -28,7 +28,7 @@ fill-node-requires c κs =
     let s = d.before.before.before.before in
     let (f, l) = s.requires in
     let n = d.before.columns-count.ensures.0 in
-    let part : d.loop-column.column ≤ columns s.args.sheet-1.now = omega (arith, d.loop-column.invariant.0, n) in
+    let part : d.loop-column.column ≤ columns s.args.sheet.now = omega (arith, d.loop-column.invariant.0, n) in
     rw d.loop-column.invariant.1 (
       row_fillable f _ l _ part,
       rw (row_columns f _ l _ part) (omega (arith, c.before.loop-column-test.true, n)),
@@ -45,7 +45,7 @@ same_length : tie.Need-shape_of-sheet invariant-loop decreases-loop
 same_length c =
     let d = c.before in
     let s = d.before.before.before.before in
-    let part : d.loop-column.column ≤ columns s.args.sheet-1.now = omega (arith, d.loop-column.invariant.0, d.before.columns-count.ensures.0) in
+    let part : d.loop-column.column ≤ columns s.args.sheet.now = omega (arith, d.loop-column.invariant.0, d.before.columns-count.ensures.0) in
     ap length d.loop-column.invariant.1 ∙ (row_same s.requires.0 _ s.requires.1 _ part).size
 
 returns : tie.Need-returns invariant-loop decreases-loop

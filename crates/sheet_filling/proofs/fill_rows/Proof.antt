@@ -27,7 +27,7 @@ fill-row-requires c κs =
     let d = c.before.before in
     let s = d.before.before.before.before in
     let n = d.before.rows-count.ensures.0 in
-    let part : d.loop-row.row ≤ rows s.args.sheet-1.now = omega (arith, d.loop-row.invariant.0, n) in
+    let part : d.loop-row.row ≤ rows s.args.sheet.now = omega (arith, d.loop-row.invariant.0, n) in
     rw d.loop-row.invariant.1 (
       rows_fillable s.requires _ part,
       rw (rows_rows s.requires _ part) (omega (arith, c.before.loop-row-test.true, n)),
@@ -38,14 +38,14 @@ unfolding rows_filled
 loop-again c =
     let d = c.before.before.before.before.before in
     let s = d.before.before.before.before in
-    let part : d.loop-row.row ≤ rows s.args.sheet-1.now = omega (arith, d.loop-row.invariant.0, d.before.rows-count.ensures.0) in
+    let part : d.loop-row.row ≤ rows s.args.sheet.now = omega (arith, d.loop-row.invariant.0, d.before.rows-count.ensures.0) in
     (search rules, c.before.before.fill_row.ensures ∙ rw (d.loop-row.invariant.1, add-one d.loop-row.row, rows_columns s.requires _ part) refl)
 
 same_length : tie.Need-shape_of-sheet invariant-loop decreases-loop
 same_length c =
     let d = c.before in
     let s = d.before.before.before.before in
-    let part : d.loop-row.row ≤ rows s.args.sheet-1.now = omega (arith, d.loop-row.invariant.0, d.before.rows-count.ensures.0) in
+    let part : d.loop-row.row ≤ rows s.args.sheet.now = omega (arith, d.loop-row.invariant.0, d.before.rows-count.ensures.0) in
     ap length d.loop-row.invariant.1 ∙ (rows_same s.requires _ part).size
 
 returns : tie.Need-returns invariant-loop decreases-loop

@@ -4,18 +4,18 @@ use borrow.Author.Rules.{rules}
 use borrow.Author.Tests.{not-false}
 use Rattle.sheet_calls.specs.Refusals.{wrong_numbers}
 use Rattle.sheet_layout.proofs.Numbers.{back}
-use Rattle.sheet_nodes.proofs.Answers.{set-refused, set-wrong, set-done}
+use Rattle.sheet_nodes.proofs.Answers.{set_refused, set_wrong, set_done}
 use Rattle.sheet_nodes.proofs.set_node.Statement.{statement}
 use Rattle.sheet_nodes.proofs.set_node.Tie as tie
 
 returns : tie.Need-returns-then-refusal-ne0
-returns c = set-refused _ _ _ _ c.before.node_refusal-refusal.ensures c.if-refusal-ne0.true
+returns c = set_refused _ _ _ _ c.before.node_refusal-refusal.ensures c.if-refusal-ne0.true
 
 returns-2 : tie.Need-returns-then-wrong_numbers
 returns-2 c =
     let d = c.before.before in
     let s = d.before.before.before.before in
-    set-wrong _ _ _ _ d.before.node_refusal-refusal.ensures d.if-refusal-ne0.false (back s.ranges.height s.ranges.x_slope s.ranges.y_slope) c.before.wrong_numbers.ensures c.if-wrong_numbers.true
+    set_wrong _ _ _ _ d.before.node_refusal-refusal.ensures d.if-refusal-ne0.false (back s.ranges.height s.ranges.x_slope s.ranges.y_slope) c.before.wrong_numbers.ensures c.if-wrong_numbers.true
 
 put-node-requires : tie.Need-put_node-requires
 unfolding wrong_numbers
@@ -28,7 +28,7 @@ returns-3 c =
     let s = d.before.before.before.before in
     let v = back s.ranges.height s.ranges.x_slope s.ranges.y_slope in
     let o = c.before.before.before.before in
-    set-done _ _ _ _ d.before.node_refusal-refusal.ensures d.if-refusal-ne0.false v e.before.wrong_numbers.ensures e.if-wrong_numbers.false o.offset-at.ensures.0 c.before.before.put_node.ensures
+    set_done _ _ _ _ d.before.node_refusal-refusal.ensures d.if-refusal-ne0.false v e.before.wrong_numbers.ensures e.if-wrong_numbers.false o.offset-at.ensures.0 c.before.before.put_node.ensures
 
 pub set_node_spec : {M : Type 1} → statement M
 set_node_spec = tie.close (tie.spec

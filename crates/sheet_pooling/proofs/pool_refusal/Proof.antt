@@ -5,17 +5,17 @@ use borrow.Author.Rules.{rules}
 use Rattle.sheet_calls.proofs.Chains.{accepts}
 use Rattle.sheet_pool.specs.Pool.{pool_refusal}
 use Rattle.sheet_pool.proofs.Conditions.{sixteen}
-use Rattle.sheet_pooling.proofs.Answers.{first-refused, second-refused, lines-refused, size-refused, sums-answer}
+use Rattle.sheet_pooling.proofs.Answers.{first_refused, second_refused, lines_refused, size_refused, sums_answer}
 use Rattle.sheet_pooling.proofs.pool_refusal.Statement.{statement}
 use Rattle.sheet_pooling.proofs.pool_refusal.Tie as tie
 
 returns : tie.Need-returns-then-of_first-ne0
-returns c = first-refused _ _ _ c.before.sheet_refusal-of_first.ensures c.if-of_first-ne0.true
+returns c = first_refused _ _ _ c.before.sheet_refusal-of_first.ensures c.if-of_first-ne0.true
 
 returns-2 : tie.Need-returns-then-sheet_refusal-ne0
 returns-2 c =
     let d = c.before.before in
-    second-refused _ _ _ d.before.sheet_refusal-of_first.ensures d.if-of_first-ne0.false c.before.sheet_refusal.ensures c.if-sheet_refusal-ne0.true
+    second_refused _ _ _ d.before.sheet_refusal-of_first.ensures d.if-of_first-ne0.false c.before.sheet_refusal.ensures c.if-sheet_refusal-ne0.true
 
 other-lines-requires : tie.Need-other_lines-requires
 other-lines-requires c κs =
@@ -26,7 +26,7 @@ returns-3 : tie.Need-returns-then-other_lines
 returns-3 c =
     let e = c.before.before in
     let d = e.before.before in
-    lines-refused _ _ _ d.before.sheet_refusal-of_first.ensures d.if-of_first-ne0.false e.before.sheet_refusal.ensures e.if-sheet_refusal-ne0.false
+    lines_refused _ _ _ d.before.sheet_refusal-of_first.ensures d.if-of_first-ne0.false e.before.sheet_refusal.ensures e.if-sheet_refusal-ne0.false
     (sym c.before.other_lines.ensures ∙ c.if-other_lines.true)
 
 returns-4 : tie.Need-returns-then-size-first
@@ -34,7 +34,7 @@ returns-4 c =
     let f = c.before in
     let e = f.before.before in
     let d = e.before.before in
-    size-refused _ _ _ d.before.sheet_refusal-of_first.ensures d.if-of_first-ne0.false e.before.sheet_refusal.ensures e.if-sheet_refusal-ne0.false
+    size_refused _ _ _ d.before.sheet_refusal-of_first.ensures d.if-of_first-ne0.false e.before.sheet_refusal.ensures e.if-sheet_refusal-ne0.false
     (sym f.before.other_lines.ensures ∙ f.if-other_lines.false) c.if-size-first.true
 
 some-sum-out-requires : tie.Need-some_sum_out-requires
@@ -57,7 +57,7 @@ by-sums k t =
     let f = g.before in
     let e = f.before.before in
     let d = e.before.before in
-    sums-answer _ _ _ d.before.sheet_refusal-of_first.ensures d.if-of_first-ne0.false e.before.sheet_refusal.ensures e.if-sheet_refusal-ne0.false
+    sums_answer _ _ _ d.before.sheet_refusal-of_first.ensures d.if-of_first-ne0.false e.before.sheet_refusal.ensures e.if-sheet_refusal-ne0.false
     (sym f.before.other_lines.ensures ∙ f.if-other_lines.false) g.if-size-first.false (sym k.some_sum_out.ensures ∙ t)
 
 returns-5 : tie.Need-returns-then-some_sum_out

@@ -25,10 +25,10 @@ unfolding sum_bytes bytes_of
 two_each a b start k = refl
 
 -- there is room for the next, and the target has its length at each turn
-room : (c : tie.At-loop-k invariant-loop decreases-loop) → let a = c.before.before.before.before.args in a.start + 2 * c.loop-k.k ≤ length a.target-1.now
+room : (c : tie.At-loop-k invariant-loop decreases-loop) → let a = c.before.before.before.before.args in a.start + 2 * c.loop-k.k ≤ length a.target.now
 room c = omega (arith, c.loop-k.invariant.0, c.before.before.before.before.requires.2)
 
-still : (c : tie.At-loop-k invariant-loop decreases-loop) → length c.loop-k.target-1 ≡ length c.before.before.before.before.args.target-1.now
+still : (c : tie.At-loop-k invariant-loop decreases-loop) → length c.loop-k.target ≡ length c.before.before.before.before.args.target.now
 still c = replacing_length 2 (two_each _ _ _) (room c) c.loop-k.invariant.1
 
 sum-bits-requires : tie.Need-sum_bits-requires invariant-loop decreases-loop

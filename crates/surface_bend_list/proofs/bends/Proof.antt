@@ -27,10 +27,10 @@ module _ (c : tie.Else-refusal-ne0) where
   abbrev s : tie.Start
   s = c.before.before.before
 
-  done : bends_refusal s.args.sheet.now s.args.x s.args.y (length s.args.list-1.now) ≡ 0
+  done : bends_refusal s.args.sheet.now s.args.x s.args.y (length s.args.list.now) ≡ 0
   done = sym c.before.bends_refusal-refusal.ensures ∙ c.if-refusal-ne0.false
 
-  right : Accepted s.args.sheet.now × Inside s.args.sheet.now s.args.x s.args.y × (24 ≤ length s.args.list-1.now)
+  right : Accepted s.args.sheet.now × Inside s.args.sheet.now s.args.x s.args.y × (24 ≤ length s.args.list.now)
   right = (taken _ _ _ _).0 done
 
 -- three numbers a piece
@@ -56,7 +56,7 @@ unfolding tally
 returns-2 c =
     let l = c.before in let e = l.before.before.before in let a = (s e).args in (
       ap (λ k. record { number = 0; pieces = k }) (third l) ∙ sym (counted_is _ _ _ _ (done e)),
-      l.list_rows-numbers.ensures.1 ∙ front (bends a.sheet.now a.x a.y) a.list-1.now (le_trans (few _ _ _ (right e).0) (right e).2) ∙ sym (written_is _ _ _ _ (done e)),
+      l.list_rows-numbers.ensures.1 ∙ front (bends a.sheet.now a.x a.y) a.list.now (le_trans (few _ _ _ (right e).0) (right e).2) ∙ sym (written_is _ _ _ _ (done e)),
     )
 
 pub bends_spec : {M : Type 1} → statement M

@@ -50,7 +50,7 @@ cell-bends-requires c κs =
 returns : tie.Need-returns
 returns c =
     let b = c.before in let n = b.before.before in let a = (s n).args in
-    (b.cell_bends.ensures.0 ∙ ap (λ l. a.at + length l) (listed n), b.cell_bends.ensures.1 ∙ ap (λ l. sets a.list-1.now a.at l) (listed n))
+    (b.cell_bends.ensures.0 ∙ ap (λ l. a.at + length l) (listed n), b.cell_bends.ensures.1 ∙ ap (λ l. sets a.list.now a.at l) (listed n))
 
 pub list_cell_spec : {M : Type 1} → statement M
 list_cell_spec = tie.close (tie.spec (λ c κs. let p = c.before.requires.0 in (mesh _ p.0, p.1, p.2)) corner-numbers-requires cell-bends-requires (λ c. search rules) returns)

@@ -40,7 +40,7 @@ module _ (s : tie.Start invariant-loop decreases-loop) where
   there : suc s.args.cells.rows.highest < rows s.args.sheet.now
   there = rw cells_are (rows_there _ s.requires.0 _ _ s.requires.1)
 
-  room : 0 + length (in_turn (rows s.args.sheet.now - 1) (bends_in_row s.args.sheet.now s.args.x s.args.y)) ≤ length s.args.list-1.now
+  room : 0 + length (in_turn (rows s.args.sheet.now - 1) (bends_in_row s.args.sheet.now s.args.x s.args.y)) ≤ length s.args.list.now
   room = rw (rows_are _ _ _) (omega (arith, few s.args.sheet.now s.args.x s.args.y s.requires.0, s.requires.3))
 
 loop-holds : tie.Need-loop-row-init invariant-loop decreases-loop

@@ -33,7 +33,7 @@ module _ (s : tie.Start) where
   abbrev on : OnStrip s.args.sheet.now s.args.strip s.args.x s.args.count
   on = s.requires.0.on
 
-  has : HasCell s.args.sheet.now s.args.column s.args.strip.row-1
+  has : HasCell s.args.sheet.now s.args.column s.args.strip.row
   has = strip_cell s.requires.0
 
   starts : line_x s.args.sheet.now s.args.column ≤ s.args.x + s.args.done
@@ -97,7 +97,7 @@ module _ (c : tie.After-fill_cell-arg-1) where
 
   -- the corner numbers of its cell, the width given
   abbrev numbers_of : ℕ → List (List ℤ)
-  numbers_of w = let a = (s l).args in arrays (corner_numbers (cell w a.strip.height) (nodes_of a.sheet.now a.column a.strip.row-1))
+  numbers_of w = let a = (s l).args in arrays (corner_numbers (cell w a.strip.height) (nodes_of a.sheet.now a.column a.strip.row))
 
   corner : c.before.corner_numbers-n.result ≡ numbers_of (line l (suc (s l).args.column) - line l (s l).args.column)
   corner = c.before.corner_numbers-n.ensures ∙ ap numbers_of (width l)
@@ -113,7 +113,7 @@ returns : tie.Need-returns
 returns c = let f = c.before in let a = f.before in let d = a.before.before in let s = d.before.before.before.before in (
   d.done_in-end.ensures,
   f.fill_cell.ensures
-      ∙ (λ j. steps (starting_at s.args.done (λ k. cell_level (corners a.before.corner_numbers-n.result) (to_right (pixel_is a j) k))) s.args.done (d.done_in-end.result - s.args.done) s.args.row-1.now)
+      ∙ (λ j. steps (starting_at s.args.done (λ k. cell_level (corners a.before.corner_numbers-n.result) (to_right (pixel_is a j) k))) s.args.done (d.done_in-end.result - s.args.done) s.args.row.now)
       ∙ steps_same _ _ _ _ _ (λ k l. starting_at_lem s.args.done _ k ∙ column_levels s.requires.0 (corner a) k (omega (arith, l, d.done_in-end.ensures))),
 )
 

@@ -32,9 +32,9 @@ module _ (c : tie.After-read_place-place invariant-loop decreases-loop) where
   unfolding place holding
   starts = ap (λ (g : Place). g.column) c.read_place-place.ensures
 
-  strip_is : record { row = c.read_place-place.result.row-1; offset = c.read_place-place.result.pixel.b; height = c.read_place-place.result.pixel.height } ≡ strip_at s.args.sheet.now s.args.y
+  strip_is : record { row = c.read_place-place.result.row; offset = c.read_place-place.result.pixel.b; height = c.read_place-place.result.pixel.height } ≡ strip_at s.args.sheet.now s.args.y
   unfolding place holding strip_at
-  strip_is = ap (λ (g : Place). record { row = g.row-1; offset = g.pixel.b; height = g.pixel.height }) c.read_place-place.ensures
+  strip_is = ap (λ (g : Place). record { row = g.row; offset = g.pixel.b; height = g.pixel.height }) c.read_place-place.ensures
 
 loop-holds : tie.Need-loop-done-init invariant-loop decreases-loop
 loop-holds c = λ mesh. rw (starts c) (first_turn _ _ _ _ mesh _)
@@ -43,7 +43,7 @@ loop-holds c = λ mesh. rw (starts c) (first_turn _ _ _ _ mesh _)
 
 -- where it starts
 turn : (l : tie.In-loop-done invariant-loop decreases-loop) → let a = (s l.before.before).args in
-    Turn a.sheet.now a.x a.y a.budget (s l.before.before).requires.0 a.row-1.now l.before.loop-done.row-1 l.before.loop-done.column l.before.loop-done.done
+    Turn a.sheet.now a.x a.y a.budget (s l.before.before).requires.0 a.row.now l.before.loop-done.row l.before.loop-done.column l.before.loop-done.done
 turn l = l.before.loop-done.invariant (s l.before.before).requires.0
 
 fill-column-requires : tie.Need-fill_column-done-requires invariant-loop decreases-loop
@@ -71,9 +71,9 @@ module _ (c : tie.After-row-1 invariant-loop decreases-loop) where
   goes_further = further _ _ _ _ _ _ (turn l) l.loop-done-test.taken c.before.fill_column-done.ensures.0
 
   -- what is stored is of the run's strip
-  stored_there : c.before.fill_column-done.new.1.1.1.1.0 ≡ steps (λ k. strip_level (s f).args.sheet.now (strip_at (s f).args.sheet.now (s f).args.y) ((s f).args.x + k)) l.before.loop-done.done (c.before.fill_column-done.result - l.before.loop-done.done) l.before.loop-done.row-1
+  stored_there : c.before.fill_column-done.new.row ≡ steps (λ k. strip_level (s f).args.sheet.now (strip_at (s f).args.sheet.now (s f).args.y) ((s f).args.x + k)) l.before.loop-done.done (c.before.fill_column-done.result - l.before.loop-done.done) l.before.loop-done.row
   stored_there = c.before.fill_column-done.ensures.1
-      ∙ ap (λ (t : Strip). steps (λ k. strip_level (s f).args.sheet.now t ((s f).args.x + k)) l.before.loop-done.done (c.before.fill_column-done.result - l.before.loop-done.done) l.before.loop-done.row-1) (strip_is f)
+      ∙ ap (λ (t : Strip). steps (λ k. strip_level (s f).args.sheet.now t ((s f).args.x + k)) l.before.loop-done.done (c.before.fill_column-done.result - l.before.loop-done.done) l.before.loop-done.row) (strip_is f)
 
 loop-less : tie.Need-loop-done-smaller invariant-loop decreases-loop
 loop-less c = omega (arith, goes_further c, (l c).loop-done-test.true)

@@ -17,18 +17,18 @@ module _ (c : tie.After-leaves_all) where
   abbrev s : tie.Start
   s = c.before.before.before.before.before.before.before
 
-  filled : c.before.before.before.run.new.1.1.1.0 ≡ levels_along s.args.sheet.now s.args.x s.args.y (length s.args.row-1.now)
-  filled = c.before.before.before.run.ensures ∙ run_laws.is_begun _ _ _ _ s.args.row-1.now (omega arith) ∙ run_laws.all _ _ _ s.args.row-1.now
+  filled : c.before.before.before.run.new.row ≡ levels_along s.args.sheet.now s.args.x s.args.y (length s.args.row.now)
+  filled = c.before.before.before.run.ensures ∙ run_laws.is_begun _ _ _ _ s.args.row.now (omega arith) ∙ run_laws.all _ _ _ s.args.row.now
 
 returns : tie.Need-returns-then-not-leaves_all
 returns c = let u = c.before.before.before.before in let a = (s u).args in let p = (s u).requires in
     c.before.clamp_row.ensures ∙ (λ t. map (clamped (u.before.clamp_at-clamp.ensures t)) (filled u t))
-    ∙ sym (clamped_along a.sheet.now a.zones.now a.x a.y (length a.row-1.now) p.0 p.1)
+    ∙ sym (clamped_along a.sheet.now a.zones.now a.x a.y (length a.row.now) p.0 p.1)
 
 returns-2 : tie.Need-returns-else-not-leaves_all
 returns-2 c = let u = c.before in let a = (s u).args in let p = (s u).requires in
     let all = ap leaves_all (sym u.before.clamp_at-clamp.ensures) ∙ sym u.Leaves_all.ensures ∙ not-false _ c.if-not-leaves_all.false in
-    filled u ∙ sym (plain_along a.sheet.now a.zones.now a.x a.y (length a.row-1.now) p.0 p.1 all)
+    filled u ∙ sym (plain_along a.sheet.now a.zones.now a.x a.y (length a.row.now) p.0 p.1 all)
 
 pub fill_stretch_spec : {M : Type 1} → statement M
 fill_stretch_spec =

@@ -19,7 +19,7 @@ abbrev decreases-loop : tie.decreases-loop-done
 decreases-loop sheet zones x y row₀ count done₀ row done = count - done
 
 -- no pixel of the run lies beyond 4,096
-near : (c : tie.In-loop-done invariant-loop decreases-loop) → let s = c.before.before.before.before in (k : ℕ) → k < length s.args.row-1.now → s.args.x + k ≤ 4096
+near : (c : tie.In-loop-done invariant-loop decreases-loop) → let s = c.before.before.before.before in (k : ℕ) → k < length s.args.row.now → s.args.x + k ≤ 4096
 near c k h = let s = c.before.before.before.before in omega (arith, (s.requires.each k h).right, last_x_near s.args.sheet.now s.requires.accepted)
 
 next-near : (c : tie.In-loop-done invariant-loop decreases-loop) → c.before.before.before.before.args.x + c.before.loop-done.done ≤ 4096
@@ -33,15 +33,15 @@ module _ (c : tie.After-stretch invariant-loop decreases-loop) where
   abbrev done : ℕ
   done = c.before.before.loop-done.done
 
-  ends : done + c.stretch.result ≤ length s.args.row-1.now
+  ends : done + c.stretch.result ≤ length s.args.row.now
   ends = omega (arith, c.before.loop-done-test.true, c.stretch.ensures.1)
 
   -- the part of the row that is lent for it
-  part : length (take (done + c.stretch.result - done) (drop done c.before.before.loop-done.row-1)) ≡ c.stretch.result
+  part : length (take (done + c.stretch.result - done) (drop done c.before.before.loop-done.row)) ≡ c.stretch.result
   part = part_length _ _ _ _ _ c.before.before.loop-done.invariant c.stretch.result ends
 
 add-end : tie.Need-overflow_add-end invariant-loop decreases-loop
-add-end c = let n = near c.before (length (s c).args.row-1.now - 1) (omega (arith, c.before.loop-done-test.true)) in
+add-end c = let n = near c.before (length (s c).args.row.now - 1) (omega (arith, c.before.loop-done-test.true)) in
     let few : done c + c.stretch.result ≤ 4097 = omega (arith, ends c, n) in search rules
 
 fill-stretch-requires : tie.Need-fill_stretch-requires invariant-loop decreases-loop

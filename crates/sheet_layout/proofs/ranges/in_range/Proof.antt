@@ -6,4 +6,4 @@ use Rattle.sheet_layout.proofs.ranges.in_range.Statement.{statement}
 use Rattle.sheet_layout.proofs.ranges.in_range.Tie as tie
 
 pub in_range_spec : {M : Type 1} → statement M
-in_range_spec = tie.close (tie.spec (λ c. rw (to_z-of_z w32 _ c.fits.x) (in_range _)))
+in_range_spec = tie.close (tie.spec (λ c. rw (to_z-of_z w32 _ c.ranges.x) (in_range _)))

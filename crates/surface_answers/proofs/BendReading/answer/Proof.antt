@@ -1,7 +1,7 @@
 -- `surface_answers::BendReading::answer` meets its contract. Assumes nothing.
 use mathlib.Core.Path.{refl}
 use Rattle.surface_answers.specs.Answers.{outcome, answered}
-use Rattle.surface_answers.proofs.Floats.{in_float, divides}
+use Rattle.surface_answers.proofs.Floats.{in_float_lem, divides}
 use Rattle.surface_answers.proofs.BendReading.answer.Statement.{statement}
 use Rattle.surface_answers.proofs.BendReading.answer.Tie as tie
 
@@ -11,7 +11,7 @@ returns c = let h = c.before.before.before.before.before.before.requires in rw (
 
 pub answer_spec : {M : Type 1} → statement M
 answer_spec = tie.close (tie.spec
-    (λ c. in_float _ c.before.before.requires.0)
-    (λ c. in_float _ c.before.before.before.before.requires.1)
-    (λ c. in_float _ c.before.before.before.before.before.before.requires.2)
+    (λ c. in_float_lem _ c.before.before.requires.0)
+    (λ c. in_float_lem _ c.before.before.before.before.requires.1)
+    (λ c. in_float_lem _ c.before.before.before.before.before.before.requires.2)
     returns)
