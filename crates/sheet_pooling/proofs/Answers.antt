@@ -19,9 +19,9 @@ module _ (a b : List ℕ) (n : ℕ) {r : ℕ} (e : r ≡ sheet_refusal a) where
   rest h = passed_by _ _ (pool_is a b n) e h
 
   module _ (h : r ≡ 0) {q : ℕ} (f : q ≡ sheet_refusal b) where
-    pub second_refused : ¬ (q ≡ 0) → 15 ≡ pool_refusal a b n
+    pub second_refused_lem : ¬ (q ≡ 0) → 15 ≡ pool_refusal a b n
     unfolding second_refused
-    second_refused k = rw (← f, ne_eqb q 0 k) at (rest h)
+    second_refused_lem k = rw (← f, ne_eqb q 0 k) at (rest h)
 
     module _ (k : q ≡ 0) where
       pub lines_refused : other_lines a b ≡ true → 16 ≡ pool_refusal a b n

@@ -25,7 +25,7 @@ loop-holds c = (omega arith, refl)
 fill-node-requires : tie.Need-fill_node-requires invariant-loop decreases-loop
 fill-node-requires c κs =
     let d = c.before.before in
-    let s = d.before.before.before.before in
+    let s = d.before.before.before in
     let (f, l) = s.requires in
     let n = d.before.columns-count.ensures.0 in
     let part : d.loop-column.column ≤ columns s.args.sheet.now = omega (arith, d.loop-column.invariant.0, n) in
@@ -44,7 +44,7 @@ loop-again c =
 same_length : tie.Need-shape_of-sheet invariant-loop decreases-loop
 same_length c =
     let d = c.before in
-    let s = d.before.before.before.before in
+    let s = d.before.before.before in
     let part : d.loop-column.column ≤ columns s.args.sheet.now = omega (arith, d.loop-column.invariant.0, d.before.columns-count.ensures.0) in
     ap length d.loop-column.invariant.1 ∙ (row_same s.requires.0 _ s.requires.1 _ part).size
 
@@ -59,7 +59,7 @@ fill_row_spec =
     (tie.spec
     invariant-loop
     decreases-loop
-    (λ c κs. omega (arith, c.before.before.requires.0.whole))
+    (λ c κs. omega (arith, c.requires.0.whole))
     loop-holds
     fill-node-requires
     (λ c. search rules)

@@ -25,7 +25,7 @@ loop-holds c = (omega arith, refl)
 fill-row-requires : tie.Need-fill_row-requires invariant-loop decreases-loop
 fill-row-requires c κs =
     let d = c.before.before in
-    let s = d.before.before.before.before in
+    let s = d.before.before.before in
     let n = d.before.rows-count.ensures.0 in
     let part : d.loop-row.row ≤ rows s.args.sheet.now = omega (arith, d.loop-row.invariant.0, n) in
     rw d.loop-row.invariant.1 (
@@ -37,14 +37,14 @@ loop-again : tie.Need-loop-row-preserved invariant-loop decreases-loop
 unfolding rows_filled
 loop-again c =
     let d = c.before.before.before.before.before in
-    let s = d.before.before.before.before in
+    let s = d.before.before.before in
     let part : d.loop-row.row ≤ rows s.args.sheet.now = omega (arith, d.loop-row.invariant.0, d.before.rows-count.ensures.0) in
     (search rules, c.before.before.fill_row.ensures ∙ rw (d.loop-row.invariant.1, add-one d.loop-row.row, rows_columns s.requires _ part) refl)
 
 same_length : tie.Need-shape_of-sheet invariant-loop decreases-loop
 same_length c =
     let d = c.before in
-    let s = d.before.before.before.before in
+    let s = d.before.before.before in
     let part : d.loop-row.row ≤ rows s.args.sheet.now = omega (arith, d.loop-row.invariant.0, d.before.rows-count.ensures.0) in
     ap length d.loop-row.invariant.1 ∙ (rows_same s.requires _ part).size
 
@@ -59,7 +59,7 @@ fill_rows_spec =
     (tie.spec
     invariant-loop
     decreases-loop
-    (λ c κs. omega (arith, c.before.before.requires.whole))
+    (λ c κs. omega (arith, c.requires.whole))
     loop-holds
     fill-row-requires
     (λ c. search rules)

@@ -13,22 +13,16 @@ returns c = set_refused _ _ _ _ c.before.node_refusal-refusal.ensures c.if-refus
 
 returns-2 : tie.Need-returns-then-wrong_numbers
 returns-2 c =
-    let d = c.before.before in
-    let s = d.before.before.before.before in
-    set_wrong _ _ _ _ d.before.node_refusal-refusal.ensures d.if-refusal-ne0.false (back s.ranges.height s.ranges.x_slope s.ranges.y_slope) c.before.wrong_numbers.ensures c.if-wrong_numbers.true
+    set_wrong _ _ _ _ c.node_refusal-refusal.ensures c.if-refusal-ne0.false (back c.ranges.height c.ranges.x_slope c.ranges.y_slope) c.wrong_numbers.ensures c.if-wrong_numbers.true
 
 put-node-requires : tie.Need-put_node-requires
 unfolding wrong_numbers
-put-node-requires c κs = let d = c.before.before.before in (c.before.offset-at.ensures.1, not-false _ (sym d.before.wrong_numbers.ensures ∙ d.if-wrong_numbers.false))
+put-node-requires c κs = (c.offset-at.ensures.1, not-false _ (sym c.wrong_numbers.ensures ∙ c.if-wrong_numbers.false))
 
 returns-3 : tie.Need-returns
 returns-3 c =
-    let e = c.before.before.before.before.before.before in
-    let d = e.before.before in
-    let s = d.before.before.before.before in
-    let v = back s.ranges.height s.ranges.x_slope s.ranges.y_slope in
-    let o = c.before.before.before.before in
-    set_done _ _ _ _ d.before.node_refusal-refusal.ensures d.if-refusal-ne0.false v e.before.wrong_numbers.ensures e.if-wrong_numbers.false o.offset-at.ensures.0 c.before.before.put_node.ensures
+    let v = back c.ranges.height c.ranges.x_slope c.ranges.y_slope in
+    set_done _ _ _ _ c.node_refusal-refusal.ensures c.if-refusal-ne0.false v c.wrong_numbers.ensures c.if-wrong_numbers.false c.offset-at.ensures.0 c.put_node.ensures
 
 pub set_node_spec : {M : Type 1} → statement M
 set_node_spec = tie.close (tie.spec

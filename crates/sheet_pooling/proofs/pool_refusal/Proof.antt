@@ -5,7 +5,7 @@ use borrow.Author.Rules.{rules}
 use Rattle.sheet_calls.proofs.Chains.{accepts}
 use Rattle.sheet_pool.specs.Pool.{pool_refusal}
 use Rattle.sheet_pool.proofs.Conditions.{sixteen}
-use Rattle.sheet_pooling.proofs.Answers.{first_refused, second_refused, lines_refused, size_refused, sums_answer}
+use Rattle.sheet_pooling.proofs.Answers.{first_refused, second_refused_lem, lines_refused, size_refused, sums_answer}
 use Rattle.sheet_pooling.proofs.pool_refusal.Statement.{statement}
 use Rattle.sheet_pooling.proofs.pool_refusal.Tie as tie
 
@@ -15,7 +15,7 @@ returns c = first_refused _ _ _ c.before.sheet_refusal-of_first.ensures c.if-of_
 returns-2 : tie.Need-returns-then-sheet_refusal-ne0
 returns-2 c =
     let d = c.before.before in
-    second_refused _ _ _ d.before.sheet_refusal-of_first.ensures d.if-of_first-ne0.false c.before.sheet_refusal.ensures c.if-sheet_refusal-ne0.true
+    second_refused_lem _ _ _ d.before.sheet_refusal-of_first.ensures d.if-of_first-ne0.false c.before.sheet_refusal.ensures c.if-sheet_refusal-ne0.true
 
 other-lines-requires : tie.Need-other_lines-requires
 other-lines-requires c κs =
@@ -50,7 +50,7 @@ some-sum-out-requires c κs =
 
 -- the sums decide, where nothing before them refuses
 by-sums : (k : tie.After-some_sum_out) {s : Bool} → k.some_sum_out.result ≡ s →
-    let x = k.before.before.before.before.before.before.before.before.before.before.args in
+    let x = k.args in
     cond s 11 0 ≡ pool_refusal x.first.now x.second.now x.size
 by-sums k t =
     let g = k.before in

@@ -34,13 +34,13 @@ loop-again c = let h = c.before in let l = h.before in let i = l.before.loop-k.i
     let rest = behind a.zones.now a.x a.y l.before.before.count-count.result (l.before.loop-k.k + 1) in
     ⊎_elim (λ w. (
       omega (arith, l.loop-k-test.true),
-      ap (limited rest) (ap (to_z w32) w.3 ∙ unchanged w32 w.1.ok ∙ w.1.ensures) ∙ does_part _ _ _ _ _ l.loop-k-test.true _ (sym h.holds.ensures ∙ w.0.taken) ∙ i.1,
-      ap (limited rest) (ap (to_z w32) w.4 ∙ unchanged w32 w.2.ok ∙ w.2.ensures) ∙ does_part _ _ _ _ _ l.loop-k-test.true _ (sym h.holds.ensures ∙ w.0.taken) ∙ i.2,
+      ap (limited rest) (w.least-is ∙ unchanged w32 w.limited_by-least.type_inv ∙ w.limited_by-least.ensures) ∙ does_part _ _ _ _ _ l.loop-k-test.true _ (sym h.holds.ensures ∙ w.if-holds.true) ∙ i.1,
+      ap (limited rest) (w.greatest-is ∙ unchanged w32 w.limited_by-greatest.type_inv ∙ w.limited_by-greatest.ensures) ∙ does_part _ _ _ _ _ l.loop-k-test.true _ (sym h.holds.ensures ∙ w.if-holds.true) ∙ i.2,
     )) (λ w. (
       omega (arith, l.loop-k-test.true),
-      ap (λ v. limited rest (to_z w32 v)) w.1 ∙ passes _ _ _ _ _ l.loop-k-test.true _ (sym h.holds.ensures ∙ w.0.left) ∙ i.1,
-      ap (λ v. limited rest (to_z w32 v)) w.2 ∙ passes _ _ _ _ _ l.loop-k-test.true _ (sym h.holds.ensures ∙ w.0.left) ∙ i.2,
-    )) c.if-holds.branch
+      ap (limited rest) w.least-is ∙ passes _ _ _ _ _ l.loop-k-test.true _ (sym h.holds.ensures ∙ w.if-holds.false) ∙ i.1,
+      ap (limited rest) w.greatest-is ∙ passes _ _ _ _ _ l.loop-k-test.true _ (sym h.holds.ensures ∙ w.if-holds.false) ∙ i.2,
+    )) c.if-holds.branch-raw
 
 returns : tie.Need-returns invariant-loop decreases-loop
 unfolding clamp_at

@@ -2,7 +2,6 @@
 use mathlib.Core.Path.{sym, ◌∙◌}
 use native.Mathlib.Omega.{arith}
 use borrow.Author.Rules.{rules}
-use borrow.Author.Tests.{not-true}
 use Rattle.sheet_zones.specs.Zones.{zone_in}
 use Rattle.sheet_zoning.proofs.Pixels.{alike_across, alike_left, alike_right, alike_inside}
 use Rattle.sheet_zoning.proofs.zone.same_until.Statement.{statement}
@@ -10,7 +9,7 @@ use Rattle.sheet_zoning.proofs.zone.same_until.Tie as tie
 
 returns : tie.Need-returns-then-not-crosses
 returns c = let s = c.before.before.before in
-    (s.requires.1, omega arith, alike_across _ _ _ _ (sym c.before.crosses.ensures ∙ not-true _ c.if-not-crosses.true))
+    (s.requires.1, omega arith, alike_across _ _ _ _ (sym c.before.crosses.ensures ∙ c.if-not-crosses.true))
 
 returns-2 : tie.Need-returns-then-x-left
 unfolding zone_in
