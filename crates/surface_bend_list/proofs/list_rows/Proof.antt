@@ -53,14 +53,14 @@ loop-holds c =
 
 list-row-requires : tie.Need-list_row-at-requires invariant-loop decreases-loop
 list-row-requires c κs =
-    let t = c.before in let l = t.before.before in let s = l.before.before in let v = l.loop-row.invariant in let p = s.requires in (
+    let t = c.before in let l = t.before.before in let s = l.before.before.before in let v = l.loop-row.invariant in let p = s.requires in (
       (p.0, p.1, columns_are s, row_at _ _ _ p.0 p.1 _ (rw (cells_are s) at v.0) (rw (cells_are s) at t.loop-row-test.true)),
       next_fits _ _ v.2 (rows s.args.sheet.now - 1) (omega (arith, t.loop-row-test.true, there s)) (room s),
     )
 
 add_row : tie.Need-overflow_add-row invariant-loop decreases-loop
 add_row c =
-    let t = c.before.before.before in let s = t.before.before.before.before in
+    let t = c.before.before.before in let s = t.before.before.before.before.before in
     omega (arith, t.loop-row-test.true, there s, (sound _ s.requires.0).many_rows)
 
 loop-less : tie.Need-loop-row-smaller invariant-loop decreases-loop

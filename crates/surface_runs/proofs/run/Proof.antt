@@ -65,10 +65,10 @@ module _ (c : tie.After-row-1 invariant-loop decreases-loop) where
   f = l.before.before
 
   near : l.before.loop-done.column < 65
-  near = column_near _ _ _ _ _ _ (turn l) l.loop-done-test.taken c.before.fill_column-done.ensures.0
+  near = column_near _ _ _ _ _ _ (turn l) l.loop-done-test.true c.before.fill_column-done.ensures.0
 
   goes_further : l.before.loop-done.done < c.before.fill_column-done.result
-  goes_further = further _ _ _ _ _ _ (turn l) l.loop-done-test.taken c.before.fill_column-done.ensures.0
+  goes_further = further _ _ _ _ _ _ (turn l) l.loop-done-test.true c.before.fill_column-done.ensures.0
 
   -- what is stored is of the run's strip
   stored_there : c.before.fill_column-done.new.row ≡ steps (λ k. strip_level (s f).args.sheet.now (strip_at (s f).args.sheet.now (s f).args.y) ((s f).args.x + k)) l.before.loop-done.done (c.before.fill_column-done.result - l.before.loop-done.done) l.before.loop-done.row
