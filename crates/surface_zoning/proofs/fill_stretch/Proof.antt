@@ -3,7 +3,6 @@ use mathlib.Core.Path.{◌≡◌, sym, ◌∙◌, ap}
 use mathlib.Core.List.{map}
 use native.Mathlib.Omega.{arith}
 use borrow.Author.Rules.{rules}
-use borrow.Author.Tests.{not-false}
 use lib.ListN.{length}
 use Rattle.sheet_zoning.specs.Clamps.{clamped, leaves_all}
 use Rattle.surface_of_sheet.specs.Run.{levels_along}
@@ -27,7 +26,7 @@ returns c = let u = c.before.before.before.before in let a = (s u).args in let p
 
 returns-2 : tie.Need-returns-else-not-leaves_all
 returns-2 c = let u = c.before in let a = (s u).args in let p = (s u).requires in
-    let all = ap leaves_all (sym u.before.clamp_at-clamp.ensures) ∙ sym u.Leaves_all.ensures ∙ not-false _ c.if-not-leaves_all.false in
+    let all = ap leaves_all (sym u.before.clamp_at-clamp.ensures) ∙ sym u.leaves_all.ensures ∙ c.if-not-leaves_all.false in
     filled u ∙ sym (plain_along a.sheet.now a.zones.now a.x a.y (length a.row.now) p.0 p.1 all)
 
 pub fill_stretch_spec : {M : Type 1} → statement M
