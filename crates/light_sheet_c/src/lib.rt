@@ -23,7 +23,7 @@ use surface_zones::Zoned;
 #[unsafe(no_mangle)]
 pub extern "C" fn lvs_check(sheet: &[u8]) -> u32
     ensures answer { result ≡ check_refusal sheet.now }
-    ensures kept { sheet.now ≡ sheet.now }
+    ensures kept { sheet.exit.now ≡ sheet.entry.now }
 {
     light_sheet::check(sheet)
 }
@@ -32,7 +32,7 @@ pub extern "C" fn lvs_check(sheet: &[u8]) -> u32
 #[unsafe(no_mangle)]
 pub extern "C" fn lvs_node_refusal(sheet: &[u8], column: u32, row: u32) -> u32
     ensures answer { result ≡ lookup_refusal sheet.now column row }
-    ensures kept { sheet.now ≡ sheet.now }
+    ensures kept { sheet.exit.now ≡ sheet.entry.now }
 {
     light_sheet::node_refusal(sheet, column, row)
 }
@@ -42,7 +42,7 @@ pub extern "C" fn lvs_node_refusal(sheet: &[u8], column: u32, row: u32) -> u32
 #[unsafe(no_mangle)]
 pub extern "C" fn lvs_node_offset(sheet: &[u8], column: u32, row: u32) -> usize
     ensures answer { result ≡ (looked_up sheet.now column row).start }
-    ensures kept { sheet.now ≡ sheet.now }
+    ensures kept { sheet.exit.now ≡ sheet.entry.now }
 {
     if light_sheet::node_refusal(sheet, column, row) != 0 {
         return 0;
@@ -83,8 +83,8 @@ pub extern "C" fn lvs_fill_slopes(sheet: &mut [u8], stiffness: u32) -> u32
 pub extern "C" fn lvs_pool(first: &[u8], second: &[u8], target: &mut [u8]) -> u32
     ensures answer { result ≡ pool_refusal first.now second.now (length target.old) }
     ensures target { target.new ≡ with_pool first.now second.now target.old }
-    ensures first { first.now ≡ first.now }
-    ensures second { second.now ≡ second.now }
+    ensures first { first.exit.now ≡ first.entry.now }
+    ensures second { second.exit.now ≡ second.entry.now }
 {
     light_sheet::pool(first, second, target)
 }
@@ -96,7 +96,7 @@ pub extern "C" fn lvs_pool(first: &[u8], second: &[u8], target: &mut [u8]) -> u3
 pub extern "C" fn lvs_read(sheet: &[u8], x: u32, y: u32, kind: u32, values: &mut [u64; 3]) -> u32
     ensures answer { result ≡ (read sheet.now x y kind).number }
     ensures values { values.new ≡ over (bits (read sheet.now x y kind).values) values.old }
-    ensures kept { sheet.now ≡ sheet.now }
+    ensures kept { sheet.exit.now ≡ sheet.entry.now }
 {
     slots::store(light_sheet::read(sheet, x, y, kind), values)
 }
@@ -115,7 +115,7 @@ pub extern "C" fn lvs_bends(
     ensures answer { result ≡ (counted sheet.now x y (length bends.old)).number }
     ensures bends { bends.new ≡ with_bends sheet.now x y bends.old }
     ensures pieces { pieces.new ≡ count_over (counted sheet.now x y (length bends.old)) pieces.old }
-    ensures kept { sheet.now ≡ sheet.now }
+    ensures kept { sheet.exit.now ≡ sheet.entry.now }
 {
     let listed = light_sheet::bends(sheet, x, y, bends);
     match listed {
@@ -133,7 +133,7 @@ pub extern "C" fn lvs_bends(
 pub extern "C" fn lvs_fill_run(sheet: &[u8], x: u32, y: u32, levels: &mut [i32]) -> u32
     ensures answer { result ≡ run_refusal sheet.now x y (length levels.old) }
     ensures levels { levels.new ≡ filled sheet.now x y levels.old }
-    ensures kept { sheet.now ≡ sheet.now }
+    ensures kept { sheet.exit.now ≡ sheet.entry.now }
 {
     light_sheet::fill_run(sheet, x, y, levels)
 }
@@ -150,8 +150,8 @@ pub extern "C" fn lvs_zoned_level(
 ) -> u32
     ensures answer { result ≡ (zoned_answer sheet.now zones.now x y).number }
     ensures level { level.new ≡ level_over (zoned_answer sheet.now zones.now x y) level.old }
-    ensures sheet { sheet.now ≡ sheet.now }
-    ensures zones { zones.now ≡ zones.now }
+    ensures sheet { sheet.exit.now ≡ sheet.entry.now }
+    ensures zones { zones.exit.now ≡ zones.entry.now }
 {
     let zoned = light_sheet::zoned_level(sheet, zones, x, y);
     match zoned {
@@ -175,8 +175,8 @@ pub extern "C" fn lvs_fill_zoned_run(
 ) -> u32
     ensures answer { result ≡ zoned_run_refusal sheet.now zones.now x y (length levels.old) }
     ensures levels { levels.new ≡ zoned_filled sheet.now zones.now x y levels.old }
-    ensures sheet { sheet.now ≡ sheet.now }
-    ensures zones { zones.now ≡ zones.now }
+    ensures sheet { sheet.exit.now ≡ sheet.entry.now }
+    ensures zones { zones.exit.now ≡ zones.entry.now }
 {
     light_sheet::fill_zoned_run(sheet, zones, x, y, levels)
 }
