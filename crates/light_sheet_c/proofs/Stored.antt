@@ -3,7 +3,7 @@ use Prim.Native.Nat.{ℕ, zero, suc, ◌≤◌}
 use mathlib.Core.Path.{◌≡◌, refl, ◌∙◌, ap}
 use mathlib.Core.List.{List, [], ◌∷◌}
 use native.Mathlib.Nat.{le_of_suc-le-suc, not-suc-le-zero}
-use lib.ListN.{length, get_or, take}
+use lib.ListN.{length, get_or, set, take}
 use lib.Seq.{sets}
 use Rattle.light_sheet_c.specs.Values.{over}
 
@@ -14,7 +14,7 @@ module _ {A : Type 0} where
 
   behind : (a : A) (array : List A) (i : ℕ) (values : List A) → sets (a ∷ array) (suc i) values ≡ a ∷ sets array i values
   behind a array i [] = refl
-  behind a array i (v ∷ values) = behind a _ (suc i) values
+  behind a array i (v ∷ values) = behind a (set array i v) (suc i) values
 
   pub stored : (values array : List A) → sets array 0 values ≡ over values array
   unfolding over
