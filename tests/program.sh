@@ -62,14 +62,14 @@ prints_of_open_input() { # FILE TEXT
   exec 4>&-
 }
 
-# And, of an error that the system gives, those for its number and its words.
+# And, of an error that the system gives, that for its number.
 calls_read_and_write() {
   local said=target/log/program_$name.say called others
   called=$(sed -n 's/^axioms libc: \(.*\) (.*/\1/p' "$said")
   [ "$called" = "libc::read, libc::write" ] ||
     { echo "${name}_vectors: the program calls the C functions '$called', not read and write alone"; exit 1; }
   others=$(grep '^axioms ' "$said" | grep -v '^axioms libc: ' |
-    grep -vxE 'axioms os: os::c::__xpg_strerror_r, os::c::rattle_errno \(2 of the [0-9]+ declared\)|axioms [a-z_]+: none reached of the [0-9]+ declared')
+    grep -vxE 'axioms os: os::c::rattle_errno \(1 of the [0-9]+ declared\)|axioms [a-z_]+: none reached of the [0-9]+ declared')
   [ -z "$others" ] || { echo "${name}_vectors: the program rests on the contracts of other C functions too: $others"; exit 1; }
 }
 
