@@ -1,8 +1,8 @@
 /* Light levels of a cinema screen, from a sheet of corrections measured on a mesh over it. The bytes of a sheet and the conditions that refuse a call are in
  * docs/FORMAT.md.
  *
- * Link with liblight_sheet_c.a, for x86-64 Linux: `rt staticlib light_sheet_c` proves the module and writes the archive to target/staticlib. The archive has
- * these eleven calls and needs no other library, not even that of C.
+ * Link with liblight_sheet_c.a, for x86-64 Linux: `tools/build light_sheet_archive` proves the module and writes the archive to target/staticlib. The
+ * archive has these eleven calls and needs no other library, not even that of C.
  *
  * Of every call:
  * - Nothing is kept from one call to the next, nothing is allocated, no system call is made, errno is not touched. A call always returns, and takes at most

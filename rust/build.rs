@@ -15,7 +15,7 @@ fn main() {
     println!("cargo:rerun-if-changed={}", archive.display());
     if !archive.is_file() {
         eprintln!(
-            "{} is not there: make it with `rt staticlib light_sheet_c` at the repository's top, \
+            "{} is not there: make it with `tools/build light_sheet_archive` at the repository's top, \
              or name the folder it is in by {FOLDER_VARIABLE}.",
             archive.display()
         );

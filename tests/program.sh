@@ -1,7 +1,7 @@
 # For the tests of built programs, which source it with the program's name in `name` and the bytes that it reads at most in `most`. Each run of the program is
 # held to what it prints, to what it leaves unread, to status 0 and to nothing on standard error.
 program=target/bin/program_$name
-[ -x "$program" ] || { echo "${name}_vectors: $program is not built; rt check program_$name builds it"; exit 1; }
+[ -x "$program" ] || { echo "${name}_vectors: $program is not built; tools/build program_$name builds it"; exit 1; }
 made=$(mktemp -d) || exit 1
 trap 'rm -rf "$made"' EXIT
 compared=0 wrong=0
@@ -62,11 +62,15 @@ prints_of_open_input() { # FILE TEXT
   exec 4>&-
 }
 
+# And, of an error that the system gives, that for its number.
 calls_read_and_write() {
-  local called
-  called=$(sed -n 's/^axioms libc: \(.*\) (.*/\1/p' "target/log/program_$name.say")
+  local said=target/log/program_$name.say called others
+  called=$(sed -n 's/^axioms libc: \(.*\) (.*/\1/p' "$said")
   [ "$called" = "libc::read, libc::write" ] ||
     { echo "${name}_vectors: the program calls the C functions '$called', not read and write alone"; exit 1; }
+  others=$(grep '^axioms ' "$said" | grep -v '^axioms libc: ' |
+    grep -vxE 'axioms os: os::c::rattle_errno \(1 of the [0-9]+ declared\)|axioms [a-z_]+: none reached of the [0-9]+ declared')
+  [ -z "$others" ] || { echo "${name}_vectors: the program rests on the contracts of other C functions too: $others"; exit 1; }
 }
 
 # The sheet of a plane. Lines are so many pixels apart; from line to line the plane rises by one step along x and falls by two along y, from 0 at the first

@@ -38,7 +38,7 @@ impl Program {
         let path = PathBuf::from(env!("CARGO_MANIFEST_DIR")).join(named);
         if !path.is_file() {
             println!(
-                "{} is not there: build it with `rt check program_reach` at the repository's top, \
+                "{} is not there: build it with `tools/build program_reach` at the repository's top, \
                  or name it by {VARIABLE}.",
                 path.display()
             );
