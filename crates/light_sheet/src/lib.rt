@@ -20,7 +20,7 @@ use surface_zones::Zoned;
 // Checks a sheet: 0 where it is accepted, else the number of the first of the conditions 1 to 6 that holds.
 pub fn check(sheet: &[u8]) -> u32
     ensures answer { result ≡ check_refusal sheet.now }
-    ensures kept { sheet.exit.now ≡ sheet.entry.now }
+    ensures kept { sheet.exit.now ≡ sheet.now }
 {
     sheet_checking::check(sheet)
 }
@@ -28,7 +28,7 @@ pub fn check(sheet: &[u8]) -> u32
 // Looks up the node at a column and row, from 0: its six bytes inside the sheet; or, refused, an empty part from the sheet's start.
 pub fn node(sheet: &[u8], column: u32, row: u32) -> &[u8]
     ensures answer { Part sheet.entry result (looked_up sheet.now column row) }
-    ensures kept { sheet.exit.now ≡ sheet.entry.now }
+    ensures kept { sheet.exit.now ≡ sheet.now }
 {
     sheet_nodes::node(sheet, column, row)
 }
@@ -36,7 +36,7 @@ pub fn node(sheet: &[u8], column: u32, row: u32) -> &[u8]
 // The companion of `node`: the number that refuses it on the same input (1 to 6, 10), or 0.
 pub fn node_refusal(sheet: &[u8], column: u32, row: u32) -> u32
     ensures answer { result ≡ lookup_refusal sheet.now column row }
-    ensures kept { sheet.exit.now ≡ sheet.entry.now }
+    ensures kept { sheet.exit.now ≡ sheet.now }
 {
     sheet_nodes::node_refusal(sheet, column, row)
 }
@@ -71,8 +71,8 @@ pub fn fill_slopes(sheet: &mut [u8], stiffness: u32) -> u32
 pub fn pool(first: &[u8], second: &[u8], target: &mut [u8]) -> u32
     ensures answer { result ≡ pool_refusal first.now second.now (length target.old) }
     ensures target { target.new ≡ with_pool first.now second.now target.old }
-    ensures first { first.exit.now ≡ first.entry.now }
-    ensures second { second.exit.now ≡ second.entry.now }
+    ensures first { first.exit.now ≡ first.now }
+    ensures second { second.exit.now ≡ second.now }
 {
     sheet_pooling::pool(first, second, target)
 }
@@ -81,7 +81,7 @@ pub fn pool(first: &[u8], second: &[u8], target: &mut [u8]) -> u32
 // `Refused` with the number (1 to 6, 7, 9).
 pub fn read(sheet: &[u8], x: u32, y: u32, kind: u32) -> Answer
     ensures answer { outcome result ≡ read sheet.now x y kind }
-    ensures kept { sheet.exit.now ≡ sheet.entry.now }
+    ensures kept { sheet.exit.now ≡ sheet.now }
 {
     surface_pixels::read(sheet, x, y, kind)
 }
@@ -92,7 +92,7 @@ pub fn read(sheet: &[u8], x: u32, y: u32, kind: u32) -> Answer
 pub fn bends(sheet: &[u8], x: u32, y: u32, list: &mut [i64]) -> Listed
     ensures answer { tally result ≡ counted sheet.now x y (length list.old) }
     ensures list { list.new ≡ with_bends sheet.now x y list.old }
-    ensures kept { sheet.exit.now ≡ sheet.entry.now }
+    ensures kept { sheet.exit.now ≡ sheet.now }
 {
     surface_bend_list::bends(sheet, x, y, list)
 }
@@ -102,7 +102,7 @@ pub fn bends(sheet: &[u8], x: u32, y: u32, list: &mut [i64]) -> Listed
 pub fn fill_run(sheet: &[u8], x: u32, y: u32, levels: &mut [i32]) -> u32
     ensures answer { result ≡ run_refusal sheet.now x y (length levels.old) }
     ensures levels { levels.new ≡ filled sheet.now x y levels.old }
-    ensures kept { sheet.exit.now ≡ sheet.entry.now }
+    ensures kept { sheet.exit.now ≡ sheet.now }
 {
     surface_filling::fill_run(sheet, x, y, levels)
 }
@@ -111,8 +111,8 @@ pub fn fill_run(sheet: &[u8], x: u32, y: u32, levels: &mut [i32]) -> u32
 // lowers to its ceiling if above; or `Refused` with the number (1 to 6, 7, 18, 19).
 pub fn zoned_level(sheet: &[u8], zones: &[u8], x: u32, y: u32) -> Zoned
     ensures answer { zoned_outcome result ≡ zoned_answer sheet.now zones.now x y }
-    ensures sheet { sheet.exit.now ≡ sheet.entry.now }
-    ensures zones { zones.exit.now ≡ zones.entry.now }
+    ensures sheet { sheet.exit.now ≡ sheet.now }
+    ensures zones { zones.exit.now ≡ zones.now }
 {
     surface_zoning::zoned_level(sheet, zones, x, y)
 }
@@ -122,8 +122,8 @@ pub fn zoned_level(sheet: &[u8], zones: &[u8], x: u32, y: u32) -> Zoned
 pub fn fill_zoned_run(sheet: &[u8], zones: &[u8], x: u32, y: u32, levels: &mut [i32]) -> u32
     ensures answer { result ≡ zoned_run_refusal sheet.now zones.now x y (length levels.old) }
     ensures levels { levels.new ≡ zoned_filled sheet.now zones.now x y levels.old }
-    ensures sheet { sheet.exit.now ≡ sheet.entry.now }
-    ensures zones { zones.exit.now ≡ zones.entry.now }
+    ensures sheet { sheet.exit.now ≡ sheet.now }
+    ensures zones { zones.exit.now ≡ zones.now }
 {
     surface_zoning::fill_zoned_run(sheet, zones, x, y, levels)
 }

@@ -1,5 +1,6 @@
 // The calls of a light sheet for C and Rust, with the outcomes of those of `light_sheet`, and all but `lvs_node_offset` thin over them. No call has a
-// `requires`. A slice is a pointer and a length in C, an array a pointer; include/light_sheet.h declares the calls.
+// `requires`. `light_sheet_archive` has them once more under their names for C, where a slice is a pointer and a length and an array a pointer;
+// include/light_sheet.h declares them.
 #![tactic(auto)]
 
 mod slots;
@@ -20,29 +21,26 @@ use surface_bends::Listed;
 use surface_zones::Zoned;
 
 // Checks a sheet: 0 where it is accepted, else the number of the first of the conditions 1 to 6 that holds.
-#[unsafe(no_mangle)]
-pub extern "C" fn lvs_check(sheet: &[u8]) -> u32
+pub fn lvs_check(sheet: &[u8]) -> u32
     ensures answer { result ≡ check_refusal sheet.now }
-    ensures kept { sheet.exit.now ≡ sheet.entry.now }
+    ensures kept { sheet.exit.now ≡ sheet.now }
 {
     light_sheet::check(sheet)
 }
 
 // The number that refuses looking up the node at a column and row (1 to 6, 10), or 0.
-#[unsafe(no_mangle)]
-pub extern "C" fn lvs_node_refusal(sheet: &[u8], column: u32, row: u32) -> u32
+pub fn lvs_node_refusal(sheet: &[u8], column: u32, row: u32) -> u32
     ensures answer { result ≡ lookup_refusal sheet.now column row }
-    ensures kept { sheet.exit.now ≡ sheet.entry.now }
+    ensures kept { sheet.exit.now ≡ sheet.now }
 {
     light_sheet::node_refusal(sheet, column, row)
 }
 
 // Where the six bytes of the node at a column and row start in the sheet; or, refused, 0. C has no slices: this is the start of the part that `node` hands
 // back.
-#[unsafe(no_mangle)]
-pub extern "C" fn lvs_node_offset(sheet: &[u8], column: u32, row: u32) -> usize
+pub fn lvs_node_offset(sheet: &[u8], column: u32, row: u32) -> usize
     ensures answer { result ≡ (looked_up sheet.now column row).start }
-    ensures kept { sheet.exit.now ≡ sheet.entry.now }
+    ensures kept { sheet.exit.now ≡ sheet.now }
 {
     if light_sheet::node_refusal(sheet, column, row) != 0 {
         return 0;
@@ -52,8 +50,7 @@ pub extern "C" fn lvs_node_offset(sheet: &[u8], column: u32, row: u32) -> usize
 
 // Sets the node at a column and row to a height, in steps, and two slopes, in grains per pixel, and answers 0; or, refused (1 to 6, 10, 11), answers the
 // number and leaves the sheet as it was.
-#[unsafe(no_mangle)]
-pub extern "C" fn lvs_set_node(
+pub fn lvs_set_node(
     sheet: &mut [u8],
     column: u32,
     row: u32,
@@ -69,8 +66,7 @@ pub extern "C" fn lvs_set_node(
 
 // Fills every slope of the sheet from its heights, with a stiffness from 0 to 64, and answers 0; or, refused (1 to 6, 12, 13), answers the number and leaves the
 // sheet as it was.
-#[unsafe(no_mangle)]
-pub extern "C" fn lvs_fill_slopes(sheet: &mut [u8], stiffness: u32) -> u32
+pub fn lvs_fill_slopes(sheet: &mut [u8], stiffness: u32) -> u32
     ensures answer { result ≡ slope_refusal sheet.old stiffness }
     ensures sheet { sheet.new ≡ with_slopes sheet.old stiffness }
 {
@@ -79,12 +75,11 @@ pub extern "C" fn lvs_fill_slopes(sheet: &mut [u8], stiffness: u32) -> u32
 
 // Pools two sheets on the same lines into the target, each height and slope the sum of the two, and answers 0; or, refused (1 to 6 of the first sheet, 15, 16,
 // 17, 11), answers the number and leaves the target as it was.
-#[unsafe(no_mangle)]
-pub extern "C" fn lvs_pool(first: &[u8], second: &[u8], target: &mut [u8]) -> u32
+pub fn lvs_pool(first: &[u8], second: &[u8], target: &mut [u8]) -> u32
     ensures answer { result ≡ pool_refusal first.now second.now (length target.old) }
     ensures target { target.new ≡ with_pool first.now second.now target.old }
-    ensures first { first.exit.now ≡ first.entry.now }
-    ensures second { second.exit.now ≡ second.entry.now }
+    ensures first { first.exit.now ≡ first.now }
+    ensures second { second.exit.now ≡ second.now }
 {
     light_sheet::pool(first, second, target)
 }
@@ -92,11 +87,10 @@ pub extern "C" fn lvs_pool(first: &[u8], second: &[u8], target: &mut [u8]) -> u3
 // Reads at the pixel (x, y) into the first slots of `values`: kind 0 the level, one slot; 1 the tilt, two; 2 the bend, three; and answers 0. The slots
 // behind keep their contents. Refused (1 to 6, 7, 9), it answers the number, and all three keep theirs. In C the slots are doubles; here they are their bits:
 // the floats of a contract have one NaN, and a slot that is kept may hold any.
-#[unsafe(no_mangle)]
-pub extern "C" fn lvs_read(sheet: &[u8], x: u32, y: u32, kind: u32, values: &mut [u64; 3]) -> u32
+pub fn lvs_read(sheet: &[u8], x: u32, y: u32, kind: u32, values: &mut [u64; 3]) -> u32
     ensures answer { result ≡ (read sheet.now x y kind).number }
     ensures values { values.new ≡ over (bits (read sheet.now x y kind).values) values.old }
-    ensures kept { sheet.exit.now ≡ sheet.entry.now }
+    ensures kept { sheet.exit.now ≡ sheet.now }
 {
     slots::store(light_sheet::read(sheet, x, y, kind), values)
 }
@@ -104,18 +98,11 @@ pub extern "C" fn lvs_read(sheet: &[u8], x: u32, y: u32, kind: u32, values: &mut
 // Lists the bend (xx, xy, yy) from each piece that touches the pixel (x, y) in the first places of `bends`, in 1/64 grain per pixel per pixel: cells row by row,
 // in each the pieces by number. Writes how many pieces there are to `pieces`, and answers 0. The places behind the list keep their contents. Refused (1 to 6, 7,
 // 14), it answers the number, and both keep theirs.
-#[unsafe(no_mangle)]
-pub extern "C" fn lvs_bends(
-    sheet: &[u8],
-    x: u32,
-    y: u32,
-    bends: &mut [i64],
-    pieces: &mut u32,
-) -> u32
+pub fn lvs_bends(sheet: &[u8], x: u32, y: u32, bends: &mut [i64], pieces: &mut u32) -> u32
     ensures answer { result ≡ (counted sheet.now x y (length bends.old)).number }
     ensures bends { bends.new ≡ with_bends sheet.now x y bends.old }
     ensures pieces { pieces.new ≡ count_over (counted sheet.now x y (length bends.old)) pieces.old }
-    ensures kept { sheet.exit.now ≡ sheet.entry.now }
+    ensures kept { sheet.exit.now ≡ sheet.now }
 {
     let listed = light_sheet::bends(sheet, x, y, bends);
     match listed {
@@ -129,29 +116,21 @@ pub extern "C" fn lvs_bends(
 
 // Fills the lent row with the levels at the pixel (x, y) and at those to its right, one for each slot, in grains, and answers 0; or, refused (1 to 6, 7, 8),
 // answers the number and leaves the row as it was.
-#[unsafe(no_mangle)]
-pub extern "C" fn lvs_fill_run(sheet: &[u8], x: u32, y: u32, levels: &mut [i32]) -> u32
+pub fn lvs_fill_run(sheet: &[u8], x: u32, y: u32, levels: &mut [i32]) -> u32
     ensures answer { result ≡ run_refusal sheet.now x y (length levels.old) }
     ensures levels { levels.new ≡ filled sheet.now x y levels.old }
-    ensures kept { sheet.exit.now ≡ sheet.entry.now }
+    ensures kept { sheet.exit.now ≡ sheet.now }
 {
     light_sheet::fill_run(sheet, x, y, levels)
 }
 
 // Writes the zoned level at the pixel (x, y), in grains, to `level`, and answers 0: the level, which each zone of the list that holds the pixel, in list order,
 // raises to its floor if below, then lowers to its ceiling if above. Refused (1 to 6, 7, 18, 19), it answers the number, and `level` keeps its contents.
-#[unsafe(no_mangle)]
-pub extern "C" fn lvs_zoned_level(
-    sheet: &[u8],
-    zones: &[u8],
-    x: u32,
-    y: u32,
-    level: &mut i32,
-) -> u32
+pub fn lvs_zoned_level(sheet: &[u8], zones: &[u8], x: u32, y: u32, level: &mut i32) -> u32
     ensures answer { result ≡ (zoned_answer sheet.now zones.now x y).number }
     ensures level { level.new ≡ level_over (zoned_answer sheet.now zones.now x y) level.old }
-    ensures sheet { sheet.exit.now ≡ sheet.entry.now }
-    ensures zones { zones.exit.now ≡ zones.entry.now }
+    ensures sheet { sheet.exit.now ≡ sheet.now }
+    ensures zones { zones.exit.now ≡ zones.now }
 {
     let zoned = light_sheet::zoned_level(sheet, zones, x, y);
     match zoned {
@@ -165,18 +144,11 @@ pub extern "C" fn lvs_zoned_level(
 
 // Fills the lent row with the zoned levels at the pixel (x, y) and at those to its right, one for each slot, in grains, and answers 0; or, refused (1 to 6, 7, 8,
 // 18, 19), answers the number and leaves the row as it was.
-#[unsafe(no_mangle)]
-pub extern "C" fn lvs_fill_zoned_run(
-    sheet: &[u8],
-    zones: &[u8],
-    x: u32,
-    y: u32,
-    levels: &mut [i32],
-) -> u32
+pub fn lvs_fill_zoned_run(sheet: &[u8], zones: &[u8], x: u32, y: u32, levels: &mut [i32]) -> u32
     ensures answer { result ≡ zoned_run_refusal sheet.now zones.now x y (length levels.old) }
     ensures levels { levels.new ≡ zoned_filled sheet.now zones.now x y levels.old }
-    ensures sheet { sheet.exit.now ≡ sheet.entry.now }
-    ensures zones { zones.exit.now ≡ zones.entry.now }
+    ensures sheet { sheet.exit.now ≡ sheet.now }
+    ensures zones { zones.exit.now ≡ zones.now }
 {
     light_sheet::fill_zoned_run(sheet, zones, x, y, levels)
 }

@@ -7,7 +7,7 @@ use surface_bends::Listed;
 use surface_zones::Zoned;
 
 pub fn check(sheet: &[u8]) -> u32
-    ensures { Check sheet.entry.now result sheet.exit.now }
+    ensures { Check sheet.now result sheet.exit.now }
 {
     light_sheet::check(sheet)
 }
@@ -19,7 +19,7 @@ pub fn node(sheet: &[u8], column: u32, row: u32) -> &[u8]
 }
 
 pub fn node_refusal(sheet: &[u8], column: u32, row: u32) -> u32
-    ensures { NodeRefusal sheet.entry.now column row result sheet.exit.now }
+    ensures { NodeRefusal sheet.now column row result sheet.exit.now }
 {
     light_sheet::node_refusal(sheet, column, row)
 }
@@ -44,37 +44,37 @@ pub fn fill_slopes(sheet: &mut [u8], stiffness: u32) -> u32
 }
 
 pub fn pool(first: &[u8], second: &[u8], target: &mut [u8]) -> u32
-    ensures { Pool first.entry.now second.entry.now target.old result target.new first.exit.now second.exit.now }
+    ensures { Pool first.now second.now target.old result target.new first.exit.now second.exit.now }
 {
     light_sheet::pool(first, second, target)
 }
 
 pub fn read(sheet: &[u8], x: u32, y: u32, kind: u32) -> Answer
-    ensures { Read sheet.entry.now x y kind result sheet.exit.now }
+    ensures { Read sheet.now x y kind result sheet.exit.now }
 {
     light_sheet::read(sheet, x, y, kind)
 }
 
 pub fn bends(sheet: &[u8], x: u32, y: u32, list: &mut [i64]) -> Listed
-    ensures { ListBends sheet.entry.now x y list.old result list.new sheet.exit.now }
+    ensures { ListBends sheet.now x y list.old result list.new sheet.exit.now }
 {
     light_sheet::bends(sheet, x, y, list)
 }
 
 pub fn fill_run(sheet: &[u8], x: u32, y: u32, levels: &mut [i32]) -> u32
-    ensures { FillRun sheet.entry.now x y levels.old result levels.new sheet.exit.now }
+    ensures { FillRun sheet.now x y levels.old result levels.new sheet.exit.now }
 {
     light_sheet::fill_run(sheet, x, y, levels)
 }
 
 pub fn zoned_level(sheet: &[u8], zones: &[u8], x: u32, y: u32) -> Zoned
-    ensures { ZonedLevel sheet.entry.now zones.entry.now x y result sheet.exit.now zones.exit.now }
+    ensures { ZonedLevel sheet.now zones.now x y result sheet.exit.now zones.exit.now }
 {
     light_sheet::zoned_level(sheet, zones, x, y)
 }
 
 pub fn fill_zoned_run(sheet: &[u8], zones: &[u8], x: u32, y: u32, levels: &mut [i32]) -> u32
-    ensures { FillZonedRun sheet.entry.now zones.entry.now x y levels.old result levels.new sheet.exit.now zones.exit.now }
+    ensures { FillZonedRun sheet.now zones.now x y levels.old result levels.new sheet.exit.now zones.exit.now }
 {
     light_sheet::fill_zoned_run(sheet, zones, x, y, levels)
 }

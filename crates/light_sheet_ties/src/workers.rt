@@ -7,13 +7,13 @@ use sheet_reach::Reach;
 
 pub fn run(sheet: &[u8], x: u32, y: u32, row: &mut [i32], budget: usize)
     requires { OnMesh sheet.now x y budget × (budget ≤ length row.old) }
-    ensures { RunSteps sheet.entry.now x y row.old budget row.new sheet.exit.now }
+    ensures { RunSteps sheet.now x y row.old budget row.new sheet.exit.now }
 {
     surface_runs::run(sheet, x, y, row, budget)
 }
 
 pub fn reach(input: &[u8]) -> Reach
-    ensures { ReachOf input.entry.now result input.exit.now }
+    ensures { ReachOf input.now result input.exit.now }
 {
     sheet_reaching::reach(input)
 }
