@@ -2,13 +2,15 @@
 // No contract speaks of what is read and written. Which text comes next, and that the texts are all that is to be printed, is proved in `program_listing`.
 #![tactic(auto)]
 
-use libc::{STDIN_FILENO, STDOUT_FILENO};
-use program_listing::{INPUT_ROOM, ROW_ROOM, next_text};
+ghost use Rattle.std.specs.Prelude.{◌≤◌, length};
 
-// Reads, then writes each text in turn, until one is empty or a write fails. A read that fails counts as the end of the input.
-fn main() {
+use program_listing::{INPUT_ROOM, ROW_ROOM, next_text};
+use std::io::Read;
+
+// Reads, then writes each text in turn, until one is empty or a write fails.
+fn main(rt: HostRuntime) {
     let mut bytes = [0u8; INPUT_ROOM];
-    let n = io::read_full(STDIN_FILENO, &mut bytes);
+    let n = read_full(&mut rt.stdin(), &mut bytes);
     let sheet = &bytes[..n];
     let refusal = sheet_checking::sheet_refusal(sheet);
     let mut out = [0u8; ROW_ROOM];
@@ -18,9 +20,24 @@ fn main() {
         if end == 0 {
             return;
         }
-        if !io::write_all(STDOUT_FILENO, &out[..end]) {
+        if rt.write_all(&out[..end]).is_err() {
             return;
         }
         k += 1;
     }
+}
+
+// Reads until `to` is full, the input ends or a read fails, and answers how many bytes stand at the start of `to`.
+// A read that fails counts as the end of the input.
+fn read_full(input: &mut impl Read, to: &mut [u8]) -> usize
+    ensures { result ≤ length to.new }
+{
+    let mut done: usize = 0;
+    while done < to.len() {
+        match input.read(&mut to[done..]) {
+            Ok(0) | Err(_) => return done,
+            Ok(n) => done += n,
+        }
+    }
+    done
 }

@@ -1,16 +1,31 @@
 // Parts and numbers of the input, the low byte first, and a copy of a sheet.
-ghost use Rattle.io.specs.Counts.{IsPrefixLen};
+ghost use Rattle.std.specs.Prelude.{◌≡◌, ◌≤◌, length, take};
 
 use integers::least;
-use libc::STDIN_FILENO;
 use sheet_words::wide;
+use std::io::Read;
+
+// Reads until `to` is full, the input ends or a read fails, and answers how many bytes stand at the start of `to`.
+// A read that fails counts as the end of the input.
+pub fn read_full(input: &mut impl Read, to: &mut [u8]) -> usize
+    ensures { (result ≤ length to.new) × (result ≡ length (take result to.new)) }
+{
+    let mut done: usize = 0;
+    while done < to.len() {
+        match input.read(&mut to[done..]) {
+            Ok(0) | Err(_) => return done,
+            Ok(n) => done += n,
+        }
+    }
+    done
+}
 
 // Reads a part of the input of this size, or as much of it as the buffer holds, to the start of the buffer, and answers how many bytes that are.
-pub fn part(size: u32, to: &mut [u8]) -> usize
-    ensures { IsPrefixLen result to.new }
+pub fn part(input: &mut impl Read, size: u32, to: &mut [u8]) -> usize
+    ensures { (result ≤ length to.new) × (result ≡ length (take result to.new)) }
 {
     let count = least(size as usize, to.len());
-    io::read_full(STDIN_FILENO, &mut to[0..count]);
+    read_full(input, &mut to[0..count]);
     count
 }
 
@@ -39,13 +54,9 @@ pub fn widened(n: i32) -> i64 {
 
 // Copies a sheet, or as much of it as the buffer holds, to the start of the buffer, and answers how many bytes that are.
 pub fn copy(sheet: &[u8], to: &mut [u8]) -> usize
-    ensures { IsPrefixLen result to.new }
+    ensures { (result ≤ length to.new) × (result ≡ length (take result to.new)) }
 {
     let count = least(sheet.len(), to.len());
-    let mut k: usize = 0;
-    while k < count {
-        to[k] = sheet[k];
-        k += 1;
-    }
+    to[..count].copy_from_slice(&sheet[..count]);
     count
 }

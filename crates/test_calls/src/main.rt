@@ -11,55 +11,70 @@ mod lines;
 mod readings;
 mod runs;
 
-use input::{long, part, short, signed, widened};
-use libc::{STDIN_FILENO, STDOUT_FILENO};
+use input::{long, part, read_full, short, signed, widened};
 use lines::{answer, call, number_after_blank, position};
 use sheet_words::wide;
+use std::io;
+use std::io::Read;
 use test_printing::field;
 
-fn main() {
-    readings::divisors();
-    let mut cases: usize = 0;
-    while cases < 4096 {
-        if !case() {
+fn main(rt: HostRuntime) -> io::Result<()> {
+    let mut input = rt.stdin();
+    readings::divisors(&rt)?;
+    for _ in 0..4096 {
+        if !case(&rt, &mut input)? {
             break;
         }
-        cases += 1;
     }
+    Ok(())
 }
 
 // One case, or false where the input has ended.
-fn case() -> bool {
+fn case(rt: &impl Print, input: &mut impl Read) -> io::Result<bool> {
     let mut head = [0u8; 6];
-    if io::read_full(STDIN_FILENO, &mut head) < 6 {
-        return false;
+    if read_full(input, &mut head) < 6 {
+        return Ok(false);
     }
     let mut name = [0u8; 64];
     let mut sheet = [0u8; 26000];
     let mut copy = [0u8; 26000];
-    let name_size = part(short(head[0], head[1]), &mut name);
-    let sheet_size = part(short(head[2], head[3]), &mut sheet);
+    let name_size = part(input, short(head[0], head[1]), &mut name);
+    let sheet_size = part(input, short(head[2], head[3]), &mut sheet);
     make_calls(
+        rt,
+        input,
         &name[..name_size],
         &sheet[..sheet_size],
         &mut copy,
         short(head[4], head[5]),
-    );
-    true
+    )?;
+    Ok(true)
 }
 
-fn make_calls(name: &[u8], sheet: &[u8], copy: &mut [u8], calls: u32) {
-    let mut k: u32 = 0;
-    while k < calls {
-        make_call(name, sheet, copy);
-        k += 1;
+fn make_calls(
+    rt: &impl Print,
+    input: &mut impl Read,
+    name: &[u8],
+    sheet: &[u8],
+    copy: &mut [u8],
+    calls: u32,
+) -> io::Result<()> {
+    for _ in 0..calls {
+        make_call(rt, input, name, sheet, copy)?;
     }
+    Ok(())
 }
 
 // Reads a call and makes it.
-fn make_call(name: &[u8], sheet: &[u8], copy: &mut [u8]) {
+fn make_call(
+    rt: &impl Print,
+    input: &mut impl Read,
+    name: &[u8],
+    sheet: &[u8],
+    copy: &mut [u8],
+) -> io::Result<()> {
     let mut c = [0u8; 21];
-    io::read_full(STDIN_FILENO, &mut c);
+    read_full(input, &mut c);
     let letter = c[0];
     let v = [
         long(c[1], c[2], c[3], c[4]),
@@ -69,69 +84,76 @@ fn make_call(name: &[u8], sheet: &[u8], copy: &mut [u8]) {
         long(c[17], c[18], c[19], c[20]),
     ];
     match letter {
-        b'c' => check(name, sheet),
-        b'n' => node(name, sheet, v[0], v[1]),
-        b's' => set_node(name, sheet, copy, v),
-        b'r' => readings::read(name, sheet, v[0], v[1], v[2]),
-        b'f' => runs::fill_run(name, sheet, v[0], v[1], v[2]),
-        _ => {}
+        b'c' => check(rt, name, sheet),
+        b'n' => node(rt, name, sheet, v[0], v[1]),
+        b's' => set_node(rt, name, sheet, copy, v),
+        b'r' => readings::read(rt, name, sheet, v[0], v[1], v[2]),
+        b'f' => runs::fill_run(rt, name, sheet, v[0], v[1], v[2]),
+        _ => Ok(()),
     }
 }
 
-fn check(name: &[u8], sheet: &[u8]) {
-    call(b"check ", name);
-    answer(light_sheet::check(sheet));
-    io::write_all(STDOUT_FILENO, b"\n");
+fn check(rt: &impl Print, name: &[u8], sheet: &[u8]) -> io::Result<()> {
+    call(rt, "check", name)?;
+    answer(rt, light_sheet::check(sheet))?;
+    println!(rt; "")
 }
 
-fn node(name: &[u8], sheet: &[u8], column: u32, row: u32) {
-    call(b"node ", name);
-    position(column, row);
-    answer(light_sheet::node_refusal(sheet, column, row));
-    handed_back(light_sheet::node(sheet, column, row));
-    io::write_all(STDOUT_FILENO, b"\n");
+fn node(rt: &impl Print, name: &[u8], sheet: &[u8], column: u32, row: u32) -> io::Result<()> {
+    call(rt, "node", name)?;
+    position(rt, column, row)?;
+    answer(rt, light_sheet::node_refusal(sheet, column, row))?;
+    handed_back(rt, light_sheet::node(sheet, column, row))?;
+    println!(rt; "")
 }
 
 // Sets the node in a fresh copy of the sheet.
-fn set_node(name: &[u8], sheet: &[u8], copy: &mut [u8], v: [u32; 5]) {
+fn set_node(
+    rt: &impl Print,
+    name: &[u8],
+    sheet: &[u8],
+    copy: &mut [u8],
+    v: [u32; 5],
+) -> io::Result<()> {
     let height = signed(v[2]);
     let x_slope = signed(v[3]);
     let y_slope = signed(v[4]);
-    call(b"set_node ", name);
-    position(v[0], v[1]);
-    field(widened(height));
-    field(widened(x_slope));
-    field(widened(y_slope));
+    call(rt, "set_node", name)?;
+    position(rt, v[0], v[1])?;
+    field(rt, widened(height))?;
+    field(rt, widened(x_slope))?;
+    field(rt, widened(y_slope))?;
     let size = input::copy(sheet, copy);
-    answer(light_sheet::set_node(&mut copy[..size], v[0], v[1], height, x_slope, y_slope));
-    changes(sheet, copy);
-    io::write_all(STDOUT_FILENO, b"\n");
+    answer(
+        rt,
+        light_sheet::set_node(&mut copy[..size], v[0], v[1], height, x_slope, y_slope),
+    )?;
+    changes(rt, sheet, copy)?;
+    println!(rt; "")
 }
 
 // A part's length and bytes.
-fn handed_back(part: &[u8]) {
-    number_after_blank(part.len() as u64);
-    io::write_all(STDOUT_FILENO, b" bytes");
-    let mut k: usize = 0;
-    while k < part.len() {
-        number_after_blank(wide(part[k]) as u64);
-        k += 1;
+fn handed_back(rt: &impl Print, part: &[u8]) -> io::Result<()> {
+    number_after_blank(rt, part.len() as u64)?;
+    print!(rt; " bytes")?;
+    for byte in part {
+        number_after_blank(rt, wide(*byte) as u64)?;
     }
+    Ok(())
 }
 
 // Each byte that differs after the call, as index=value.
-fn changes(before: &[u8], after: &[u8]) {
+fn changes(rt: &impl Print, before: &[u8], after: &[u8]) -> io::Result<()> {
     let mut k: usize = 0;
     while k < before.len() && k < after.len() {
         if before[k] != after[k] {
-            change(k, after[k]);
+            change(rt, k, after[k])?;
         }
         k += 1;
     }
+    Ok(())
 }
 
-fn change(index: usize, value: u8) {
-    number_after_blank(index as u64);
-    io::write_all(STDOUT_FILENO, b"=");
-    io::print_decimal(STDOUT_FILENO, value as u64);
+fn change(rt: &impl Print, index: usize, value: u8) -> io::Result<()> {
+    print!(rt; " {index}={value}")
 }

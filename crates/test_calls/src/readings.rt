@@ -1,72 +1,79 @@
 // The call `read`: its line ends in the whole numbers before the division.
 use super::lines::{answer, call, position};
-use libc::STDOUT_FILENO;
+use std::io;
 use surface_answers::{Answer, BendReading, LevelReading, TiltReading};
 use test_printing::{field, last};
 
 // Those of level, tilt and bend.
-pub fn divisors() {
-    io::write_all(STDOUT_FILENO, b"divisors ");
-    value(LevelReading::DIVISOR, 1.0);
-    value(TiltReading::DIVISOR, 1.0);
-    last_value(BendReading::DIVISOR, 1.0);
+pub fn divisors(rt: &impl Print) -> io::Result<()> {
+    print!(rt; "divisors ")?;
+    value(rt, LevelReading::DIVISOR, 1.0)?;
+    value(rt, TiltReading::DIVISOR, 1.0)?;
+    last_value(rt, BendReading::DIVISOR, 1.0)
 }
 
-pub fn read(name: &[u8], sheet: &[u8], x: u32, y: u32, kind: u32) {
-    call(b"read ", name);
-    position(x, y);
-    field(kind as i64);
+pub fn read(
+    rt: &impl Print,
+    name: &[u8],
+    sheet: &[u8],
+    x: u32,
+    y: u32,
+    kind: u32,
+) -> io::Result<()> {
+    call(rt, "read", name)?;
+    position(rt, x, y)?;
+    field(rt, kind as i64)?;
     match light_sheet::read(sheet, x, y, kind) {
-        Answer::Level(level) => level_line(level),
-        Answer::Tilt(tilt_x, tilt_y) => tilt_line(tilt_x, tilt_y),
-        Answer::Bend(xx, xy, yy) => bend_line(xx, xy, yy),
-        Answer::Refused(number) => refused_line(number),
+        Answer::Level(level) => level_line(rt, level),
+        Answer::Tilt(tilt_x, tilt_y) => tilt_line(rt, tilt_x, tilt_y),
+        Answer::Bend(xx, xy, yy) => bend_line(rt, xx, xy, yy),
+        Answer::Refused(number) => refused_line(rt, number),
     }
 }
 
-fn level_line(level: f64) {
-    accepted();
-    last_value(level, LevelReading::DIVISOR);
+fn level_line(rt: &impl Print, level: f64) -> io::Result<()> {
+    accepted(rt)?;
+    last_value(rt, level, LevelReading::DIVISOR)
 }
 
-fn tilt_line(x: f64, y: f64) {
-    accepted();
-    value(x, TiltReading::DIVISOR);
-    last_value(y, TiltReading::DIVISOR);
+fn tilt_line(rt: &impl Print, x: f64, y: f64) -> io::Result<()> {
+    accepted(rt)?;
+    value(rt, x, TiltReading::DIVISOR)?;
+    last_value(rt, y, TiltReading::DIVISOR)
 }
 
-fn bend_line(xx: f64, xy: f64, yy: f64) {
-    accepted();
-    value(xx, BendReading::DIVISOR);
-    value(xy, BendReading::DIVISOR);
-    last_value(yy, BendReading::DIVISOR);
+fn bend_line(rt: &impl Print, xx: f64, xy: f64, yy: f64) -> io::Result<()> {
+    accepted(rt)?;
+    value(rt, xx, BendReading::DIVISOR)?;
+    value(rt, xy, BendReading::DIVISOR)?;
+    last_value(rt, yy, BendReading::DIVISOR)
 }
 
-fn refused_line(number: u32) {
-    answer(number);
-    io::write_all(STDOUT_FILENO, b"\n");
+fn refused_line(rt: &impl Print, number: u32) -> io::Result<()> {
+    answer(rt, number)?;
+    println!(rt; "")
 }
 
-fn accepted() {
-    answer(0);
-    io::write_all(STDOUT_FILENO, b" ");
+fn accepted(rt: &impl Print) -> io::Result<()> {
+    answer(rt, 0)?;
+    print!(rt; " ")
 }
 
 // The whole number that was divided, or "inexact" where v is not its quotient.
-fn value(v: f64, divisor: f64) {
+fn value(rt: &impl Print, v: f64, divisor: f64) -> io::Result<()> {
     if exact(v, divisor) {
-        field(whole(v * divisor));
+        field(rt, whole(v * divisor))
     } else {
-        io::write_all(STDOUT_FILENO, b"inexact ");
+        print!(rt; "inexact ")
     }
 }
 
 // The one that ends its line.
-fn last_value(v: f64, divisor: f64) {
+fn last_value(rt: &impl Print, v: f64, divisor: f64) -> io::Result<()> {
     if exact(v, divisor) {
-        last(whole(v * divisor));
+        last(rt, whole(v * divisor))
     } else {
-        io::write_all(STDOUT_FILENO, b"inexact\n");
+        println!(rt; "inexact")
     }
 }
 

@@ -4,7 +4,7 @@ ghost use Rattle.std.specs.Prelude.{◌≤◌, length};
 
 use super::input::widened;
 use super::lines::{answer, call, position};
-use libc::STDOUT_FILENO;
+use std::io;
 use surface_answers::{Answer, LevelReading};
 use test_printing::{field, next};
 
@@ -12,36 +12,52 @@ use test_printing::{field, next};
 const MARGIN: usize = 64;
 
 // A row that the buffer does not hold between two margins is left out, and its line is then missing.
-pub fn fill_run(name: &[u8], sheet: &[u8], x: u32, y: u32, size: u32) {
+pub fn fill_run(
+    rt: &impl Print,
+    name: &[u8],
+    sheet: &[u8],
+    x: u32,
+    y: u32,
+    size: u32,
+) -> io::Result<()> {
     let mut buffer = [0i32; 5128];
     let end = MARGIN + size as usize;
     if end + MARGIN <= 5128 {
-        call(b"fill_run ", name);
-        position(x, y);
-        field(size as i64);
-        fill_lent(sheet, x, y, &mut buffer[0..end + MARGIN], end);
-        io::write_all(STDOUT_FILENO, b"\n");
+        call(rt, "fill_run", name)?;
+        position(rt, x, y)?;
+        field(rt, size as i64)?;
+        fill_lent(rt, sheet, x, y, &mut buffer[0..end + MARGIN], end)?;
+        println!(rt; "")?;
     }
+    Ok(())
 }
 
 // Lends the slots of the buffer from the first margin to `end`.
-fn fill_lent(sheet: &[u8], x: u32, y: u32, buffer: &mut [i32], end: usize)
+fn fill_lent(
+    rt: &impl Print,
+    sheet: &[u8],
+    x: u32,
+    y: u32,
+    buffer: &mut [i32],
+    end: usize,
+) -> io::Result<()>
     requires { (64 ≤ end) × (end ≤ length buffer.old) }
 {
     mark(buffer);
     let number = light_sheet::fill_run(sheet, x, y, &mut buffer[MARGIN..end]);
-    answer(number);
+    answer(rt, number)?;
     if number == 0 {
-        levels(&buffer[MARGIN..end]);
+        levels(rt, &buffer[MARGIN..end])?;
         if !as_read(sheet, x, y, &buffer[MARGIN..end]) {
-            io::write_all(STDOUT_FILENO, b" unlike_read");
+            print!(rt; " unlike_read")?;
         }
     } else if !marked(buffer, MARGIN, end) {
-        io::write_all(STDOUT_FILENO, b" row_altered");
+        print!(rt; " row_altered")?;
     }
     if !marked(buffer, 0, MARGIN) || !marked(buffer, end, buffer.len()) {
-        io::write_all(STDOUT_FILENO, b" margin_altered");
+        print!(rt; " margin_altered")?;
     }
+    Ok(())
 }
 
 // Marks every slot.
@@ -70,12 +86,11 @@ fn mark_of(slot: usize) -> i32 {
     (1048576 + slot % 1048576) as i32
 }
 
-fn levels(row: &[i32]) {
-    let mut k: usize = 0;
-    while k < row.len() {
-        next(widened(row[k]));
-        k += 1;
+fn levels(rt: &impl Print, row: &[i32]) -> io::Result<()> {
+    for level in row {
+        next(rt, widened(*level))?;
     }
+    Ok(())
 }
 
 // Whether `read` gives the row's levels, from (x, y) on to the right.

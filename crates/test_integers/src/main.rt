@@ -5,6 +5,7 @@
 ghost use Rattle.integers.specs.Ratio.{Ratio};
 
 use integers::Denominator;
+use std::io;
 use test_printing::{field, last};
 
 const NUMERATORS: [i64; 28] = [
@@ -51,36 +52,37 @@ const DENOMINATORS: [i64; 10] = [
     137438953472,
 ];
 
-fn main() {
+fn main(rt: HostRuntime) -> io::Result<()> {
     let mut k = 0;
     while k < 280 {
-        line(NUMERATORS[k % 28], DENOMINATORS[k / 28]);
+        line(&rt, NUMERATORS[k % 28], DENOMINATORS[k / 28])?;
         k += 1;
     }
+    Ok(())
 }
 
 // A line for a numerator and a denominator in range.
-fn line(n: i64, d: i64) {
+fn line(rt: &impl Print, n: i64, d: i64) -> io::Result<()> {
     if d < 1 || 137438953472 < d {
-        return;
+        return Ok(());
     }
     if n < -4611686018427387904 || 4611686018427387904 < n {
-        return;
+        return Ok(());
     }
-    field(n);
-    field(d);
-    results(n, d);
+    field(rt, n)?;
+    field(rt, d)?;
+    results(rt, n, d)
 }
 
-fn results(n: i64, d: i64)
+fn results(rt: &impl Print, n: i64, d: i64) -> io::Result<()>
     requires { Ratio n d }
 {
-    field(integers::floor_div(n, d));
+    field(rt, integers::floor_div(n, d))?;
     let reach = 16777216 * d;
     if -reach <= n && n <= reach {
-        field(integers::round(n, d));
-        last(Denominator::new(d).round_small(n));
+        field(rt, integers::round(n, d))?;
+        last(rt, Denominator::new(d).round_small(n))
     } else {
-        last(integers::round(n, d));
+        last(rt, integers::round(n, d))
     }
 }
