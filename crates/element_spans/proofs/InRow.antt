@@ -10,4 +10,4 @@ pub inside_at : {p : Pixel} → PixelInCell p → {a : ℕ} → a ≤ p.width �
 inside_at i l = record { width = i.width; height = i.height; across = l; down = i.down }
 
 pub inside_right : (p : Pixel) {count k : ℕ} → FitsCell p count → k < count → PixelInCell (to_right p k)
-inside_right p c l = inside_at c.inside (omega (arith, c.ranges))
+inside_right p c l = inside_at c.inside (omega (arith, c.fits))

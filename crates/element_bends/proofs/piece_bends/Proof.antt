@@ -7,7 +7,6 @@ use native.Mathlib.Nat.{add-zero}
 use native.Mathlib.Numerals.{add-one, add-two}
 use native.Mathlib.Omega.{arith}
 use borrow.Author.Rules.{rules}
-use borrow.Author.Tests.{not-true, not-false}
 use lib.IntN.{ℤ}
 use lib.ListN.{length, set, length-set}
 use mir.Syntax.{w64}
@@ -42,7 +41,7 @@ abbrev start : tie.Else-not-holds → tie.Start
 start c = c.before.before
 
 three-bends : (c : tie.Else-not-holds) → let a = (start c).args in piece_bends (corners a.n) a.p (piece_of a.piece) ≡ three (start c)
-three-bends c = bends_are (start c) (sym c.before.holds.ensures ∙ not-false _ c.if-not-holds.false)
+three-bends c = bends_are (start c) (sym c.before.holds.ensures ∙ c.if-not-holds.false)
 
 room : (c : tie.Else-not-holds) → (start c).args.at + 3 ≤ length (start c).args.list.now
 room c = omega (arith, (start c).requires.2, ap length (three-bends c))
@@ -56,7 +55,7 @@ module _ (c : tie.After-coefficients-k) where
   same f = let p = (start c.before).args.p in ap (λ g. f (pixel_cell p) g (pixel_point p)) (ap halves c.coefficients-k.ensures ∙ joined.back _ _)
 
 returns : tie.Need-returns-then-not-holds
-returns c = rw (bends_are c.before.before (sym c.before.holds.ensures ∙ not-true _ c.if-not-holds.true)) (sym (add-zero _), refl)
+returns c = rw (bends_are c.before.before (sym c.before.holds.ensures ∙ c.if-not-holds.true)) (sym (add-zero _), refl)
 
 returns-2 : tie.Need-returns
 returns-2 c =

@@ -1,7 +1,7 @@
 -- `element_pieces::on_left` meets its contract. Assumes nothing.
 use mathlib.Core.Path.{◌∙◌}
 use borrow.Author.Rules.{rules}
-use Rattle.element_sibson.specs.Element.{transposed, exchanged, on_top, on_left}
+use Rattle.element_sibson.specs.Element.{transposed, on_top, on_left}
 use Rattle.element_cell.specs.Coefficients.{listed, halves}
 use Rattle.element_cell.proofs.Arrays.{held}
 use Rattle.element_corners.proofs.Turned.{exchanged_within}

@@ -48,7 +48,7 @@ module _ (c : tie.In-loop-i invariant-loop decreases-loop) where
 
   abbrev before : Operand
   before = record {
-    read = to_z w64 c.before.loop-i.sum;
+    read = to_z w64 c.before.loop-i.sum-bits;
     number = sum_of n table power i;
     bound = 72 * largest;
     reads = c.before.loop-i.invariant.1;

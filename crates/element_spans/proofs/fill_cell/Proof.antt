@@ -102,7 +102,7 @@ abbrev levels : List (List ℤ) → Pixel → ℕ → ℤ
 levels n p k = cell_level (corners n) (to_right p k)
 
 module _ (c : tie.After-fill_levels) where
-  row₁ : let a = (start (first c.before)).args in c.fill_levels.new-d.0 ≡ steps (starting_at a.at (levels a.n a.first)) a.at (lefts (first c.before)) a.row.now
+  row₁ : let a = (start (first c.before)).args in c.fill_levels.new.row ≡ steps (starting_at a.at (levels a.n a.first)) a.at (lefts (first c.before)) a.row.now
   row₁ = let l = c.before in let s = start (first l) in let a = s.args in let v = (first l).before.before.before.new-d.result.value in
       c.fill_levels.ensures ∙ steps_same _ _ a.at (lefts (first l)) _ (λ k h.
       starting_at_lem a.at _ k
@@ -113,7 +113,7 @@ module _ (c : tie.After-fill_levels) where
 
 module _ (c : tie.After-fill_levels-2) where
   row₂ : let a = (start (second c.before)).args in
-      c.fill_levels-2.new-d.0 ≡ steps (starting_at a.at (levels a.n a.first)) a.at (lefts (second c.before) + (both (second c.before) - lefts (second c.before))) a.row.now
+      c.fill_levels-2.new.row ≡ steps (starting_at a.at (levels a.n a.first)) a.at (lefts (second c.before) + (both (second c.before) - lefts (second c.before))) a.row.now
   row₂ = let l = c.before in let s = start (second l) in let a = s.args in
       starting_more (levels a.n a.first) _ a.at (lefts (second l)) (both (second l) - lefts (second l)) a.row.now
       (row₁ l.before.before.before) c.fill_levels-2.ensures (levels_are s.requires.0 s.requires.1 (divisor (second l)) (span₂ l))
