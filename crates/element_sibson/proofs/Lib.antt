@@ -16,4 +16,5 @@ pub mod Rotation
 pub mod Blank
 pub mod Difference
 pub mod SameValues
+mod Agreement
 pub mod Unique
