@@ -37,6 +37,9 @@ natural (negsuc n) w h = absurd h.le
 
 -- ---- what `signed_word` gives: bits from 32,768 on have 65,536 taken away
 
+pub raised_small : (w : ℕ) → (w + 32768) % 65536 ≤ 65535
+raised_small w = omega arith
+
 pub signed_raised : (w : ℕ) → w < 65536 → pos ((w + 32768) % 65536) -ℤ pos 32768 ≡ signed w
 unfolding signed
 signed_raised w k = elim (dec_le 32768 w) [

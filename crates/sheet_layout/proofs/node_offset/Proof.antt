@@ -3,7 +3,7 @@ use Prim.Native.Nat.{◌+◌, ◌*◌, ◌≤◌}
 use mathlib.Core.Path.{refl}
 use native.Mathlib.Omega.{arith}
 use lib.ListN.{length}
-use Rattle.sheet_layout.specs.Format.{columns, node_size, nodes_offset}
+use Rattle.sheet_layout.specs.Format.{node_size, nodes_offset}
 use Rattle.sheet_layout.proofs.Offsets.{node_fits}
 use Rattle.sheet_layout.proofs.node_offset.Statement.{statement}
 use Rattle.sheet_layout.proofs.node_offset.Tie as tie
