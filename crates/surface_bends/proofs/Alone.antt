@@ -14,7 +14,7 @@ use Rattle.element_sibson.proofs.Covers.{covering}
 use Rattle.sheet_layout.specs.Format.{columns, rows, line_x, line_y}
 use Rattle.sheet_calls.specs.Refusals.{Accepted}
 use Rattle.sheet_calls.specs.WellFormed.{Inside}
-use Rattle.surface_of_sheet.specs.Place.{cell_of, point_at, columns_at, rows_at, column_at, row_at, place, seen}
+use Rattle.surface_of_sheet.specs.Place.{point_at, columns_at, rows_at, column_at, row_at, place, seen}
 use Rattle.surface_of_sheet.specs.Touching.{Touches}
 use Rattle.surface_of_sheet.proofs.CellsAlong.{cell_laws}
 use Rattle.surface_of_sheet.proofs.Cells.{sound, x_rising, y_rising}
