@@ -14,11 +14,12 @@ use Rattle.element_sibson.proofs.Covers.{covering}
 use Rattle.sheet_layout.specs.Format.{columns, rows, line_x, line_y}
 use Rattle.sheet_calls.specs.Refusals.{Accepted}
 use Rattle.sheet_calls.specs.WellFormed.{Inside}
-use Rattle.surface_of_sheet.specs.Place.{cell_of, point_at, columns_at, rows_at, column_at, row_at, place, seen}
+use Rattle.surface_of_sheet.specs.Place.{point_at, columns_at, rows_at, column_at, row_at, place, seen}
 use Rattle.surface_of_sheet.specs.Touching.{Touches}
 use Rattle.surface_of_sheet.proofs.CellsAlong.{cell_laws}
 use Rattle.surface_of_sheet.proofs.Cells.{sound, x_rising, y_rising}
-use Rattle.surface_of_sheet.proofs.Places.{touched, is_seen, in_piece, there, on_piece}
+use Rattle.surface_of_sheet.proofs.InPiece.{in_piece}
+use Rattle.surface_of_sheet.proofs.Places.{touched, is_seen, there, on_piece}
 use Rattle.surface_bends.specs.Bends.{touching_places, entry_place}
 use Rattle.surface_bends.proofs.Touched.{column_between, row_between}
 use Rattle.surface_bends.proofs.Listing.{only, once}

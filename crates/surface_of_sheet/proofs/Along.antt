@@ -4,38 +4,28 @@ use mathlib.Core.Path.{◌≡◌, subst, subst⁻¹}
 use native.Mathlib.Omega.{arith}
 use native.Mathlib.Nat.{le_antisymm}
 use native.Mathlib.Decide.{ℕ_discrete, dec_lt}
-use lib.Dec.{leb, leb→le, nleb→lt}
-use Rattle.integers.proofs.Order.{cond_ind}
 use Rattle.sheet_calls.specs.WellFormed.{Rising}
 use Rattle.sheet_calls.proofs.Rising.{rise}
 use Rattle.surface_of_sheet.specs.Place.{highest_along}
+use Rattle.surface_of_sheet.proofs.AlongStep.{along_step}
 
 module _ (line : ℕ → ℕ) (position : ℕ) where
-  -- the last cell where it starts at or before the position, and one of the others where it does not
-  pub along_step : (k : ℕ) (Q : ℕ → Type 0) → (line (suc k) ≤ position → Q (suc k)) → (position < line (suc k) → Q (highest_along line k position)) →
-      Q (highest_along line (suc k) position)
-  unfolding highest_along
-  along_step k Q here before =
-      cond_ind (leb (line (suc k)) position) (suc k) (highest_along line k position) Q
-      (λ t. here (leb→le _ _ t))
-      (λ t. before (nleb→lt _ _ t))
-
   pub along_least : (k : ℕ) → highest_along line k position ≤ k
   unfolding highest_along
   along_least zero = omega arith
-  along_least (suc k) = along_step k (λ c. c ≤ suc k) (λ h. omega arith) (λ h. let least = along_least k in omega arith)
+  along_least (suc k) = along_step line position k (λ c. c ≤ suc k) (λ h. omega arith) (λ h. let least = along_least k in omega arith)
 
   -- it starts at or before the position
   pub along_starts : (k : ℕ) → line 0 ≤ position → line (highest_along line k position) ≤ position
   unfolding highest_along
   along_starts zero h = h
-  along_starts (suc k) h = along_step k (λ c. line c ≤ position) (λ l. l) (λ l. along_starts k h)
+  along_starts (suc k) h = along_step line position k (λ c. line c ≤ position) (λ l. l) (λ l. along_starts k h)
 
   -- no later cell does
   pub along_last : (k j : ℕ) → j ≤ k → line j ≤ position → j ≤ highest_along line k position
   unfolding highest_along
   along_last zero j l h = l
-  along_last (suc k) j l h = along_step k (λ c. j ≤ c) (λ m. l) (λ m. elim (ℕ_discrete j (suc k)) [
+  along_last (suc k) j l h = along_step line position k (λ c. j ≤ c) (λ m. l) (λ m. elim (ℕ_discrete j (suc k)) [
     | yes e ↦ absurd (let early : line (suc k) ≤ position = rw (← e) h in omega arith)
     | no d ↦ along_last k j (omega arith) h
   ])

@@ -26,7 +26,8 @@ use Rattle.surface_of_sheet.specs.Surface.{node_numbers, nodes_of, set_of, cubic
 use Rattle.surface_of_sheet.specs.Read.{numbers, read}
 use Rattle.surface_of_sheet.specs.Theorems.{AtNodes}
 use Rattle.surface_of_sheet.proofs.Cells.{x_rising, y_rising, width_back, height_back}
-use Rattle.surface_of_sheet.proofs.Places.{in_piece, place_laws, has_cell, node_inside}
+use Rattle.surface_of_sheet.proofs.InPiece.{in_piece}
+use Rattle.surface_of_sheet.proofs.Places.{place_laws, has_cell, node_inside}
 use Rattle.surface_of_sheet.proofs.Answered.{read_is}
 
 -- ---- a node's pixel is a corner of its cell

@@ -10,7 +10,8 @@ use Rattle.sheet_calls.specs.WellFormed.{Rising}
 use Rattle.sheet_calls.proofs.Rising.{rise}
 use Rattle.surface_of_sheet.specs.Place.{highest_along, lowest_along, cells_along}
 use Rattle.surface_of_sheet.specs.Touching.{CellLaws}
-use Rattle.surface_of_sheet.proofs.Along.{along_step, along_least, along_starts, along_last, along_in, along_end}
+use Rattle.surface_of_sheet.proofs.AlongStep.{along_step}
+use Rattle.surface_of_sheet.proofs.Along.{along_least, along_starts, along_last, along_in, along_end}
 
 -- the highest starts at or before the position, unless it is the first
 starts_or_first : (line : ℕ → ℕ) (position k : ℕ) → (highest_along line k position ≡ 0) ⊎ (line (highest_along line k position) ≤ position)

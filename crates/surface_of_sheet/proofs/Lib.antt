@@ -1,6 +1,8 @@
+pub mod AlongStep
 pub mod Along
 pub mod CellsAlong
 pub mod Cells
+pub mod InPiece
 pub mod Places
 pub mod Sets
 pub mod EdgePoints

@@ -20,6 +20,7 @@ use Rattle.surface_of_sheet.specs.Place.{cell_of, HasCell, Place, point_at, colu
 use Rattle.surface_of_sheet.specs.Touching.{Touches, PlaceLaws}
 use Rattle.surface_of_sheet.proofs.Along.{along_starts, along_last, along_in, axis_cell, axis_ends, axis_inside, axis_end}
 use Rattle.surface_of_sheet.proofs.Cells.{sound, x_rising, y_rising, width_back, height_back}
+use Rattle.surface_of_sheet.proofs.InPiece.{in_piece}
 
 -- ---- what `touches` says, in facts
 
@@ -59,11 +60,6 @@ module _ {s : List ℕ} {p : Place} {x y : ℕ} (t : Touches s p x y) where
   is_seen = rw (offset_a, offset_b) refl
 
 -- ---- the place of a pixel
-
--- its point lies in its piece
-pub in_piece : (s : List ℕ) (x y : ℕ) → T (triangle (place s x y).piece (point_at s (place s x y)))
-unfolding place
-in_piece s x y = covering.covers (point_at s (place s x y))
 
 module _ (s : List ℕ) (accepted : Accepted s) where
   -- a node's pixel is one of the mesh
