@@ -3,7 +3,7 @@ use mathlib.Core.Path.{◌≡◌, refl, sym, ◌∙◌}
 use mathlib.Core.Bool.{Bool, true, false, ◌&&◌, cond}
 use mathlib.Core.List.{List, [], ◌∷◌}
 use Prim.Native.Nat.{ℕ, ◌+◌, ◌*◌, ◌≤◌, ◌<◌}
-use native.Mathlib.Nat.{le_of_lt, le_trans, mul-le-mul}
+use native.Mathlib.Nat.{le_of_lt}
 use borrow.Author.Tests.{le-leb, lt-leb}
 use lib.Dec.{T, leb}
 use lib.IntN.{ℤ, pos}
@@ -82,11 +82,6 @@ module _ (p : Pixel) (i : PixelInCell p) where
 
   abbrev q : ℕ
   q = p.width * p.height
-
-  -- none exceeds 64 · 64
-  pub products : (x ≤ 4096) × (y ≤ 4096) × (q ≤ 4096)
-  products =
-      (mul-le-mul (le_trans i.across i.width.most) i.height.most, mul-le-mul (le_trans i.down i.height.most) i.width.most, mul-le-mul i.width.most i.height.most)
 
   pub held : (k : Piece) → between k x y q ≡ triangle k (pixel_point p)
   unfolding cell

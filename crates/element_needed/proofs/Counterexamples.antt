@@ -1,6 +1,6 @@
 -- Sets that are not 0, have nothing at the corners, and meet all conditions but those along one edge, or along two half diagonals; the others by
 -- quarter turns. Assumes nothing.
-use mathlib.Core.Path.{◌≡◌, refl, sym, ◌∙◌, ap, subst}
+use mathlib.Core.Path.{◌≡◌, refl, sym, ap, subst}
 use mathlib.Core.Bool.{Bool, true, ◌&&◌}
 use mathlib.Core.List.{List, [], ◌∷◌}
 use Prim.Native.Nat.{◌<◌}
@@ -18,12 +18,13 @@ use Rattle.element_needed.specs.Needed.{MeetsSome, Counterexample, Needed}
 use Rattle.integers.proofs.Polynomial.{con, #◌, ◌⊗◌}
 use Rattle.integers.proofs.Solve.{◌≐◌}
 use Rattle.integers.proofs.Deduce.{◌·◌, ◌⊨◌, deduce, both}
-use Rattle.element_sibson.proofs.Finite.{every_piece, every_piece_lem, every_corner, every_corner_lem, implies, implied, differs, apart, and}
+use Rattle.element_sibson.proofs.Finite.{every_piece, every_piece_lem, every_corner, every_corner_lem, implies, implied, differs, apart}
 use Rattle.element_sibson.proofs.Jets.{≋_sym, ≋_trans, none}
 use Rattle.element_sibson.proofs.Quote.{Cubicₑ, cubic_ofₑ}
 use Rattle.element_sibson.proofs.Evaluate.{zeroes, zeroes_none, flatₑ}
 use Rattle.element_sibson.proofs.Meetings.{joins, joined, smooth_at, flat, no_square, has, has_numbers}
 use Rattle.element_sibson.proofs.Coefficients.{coefficient_of, Zero}
+use Rattle.element_needed.proofs.Neither.{four_turns, next_apart, Neither, neither, apart_both, next_neither}
 use Rattle.element_sibson.proofs.Rotation.{rotated_set, on_side, smooth_rotated, square_rotated, NothingAtCorners, corners_rotated, zero_rotated}
 
 -- ---- sets of whole coefficients, in the powers' order
@@ -74,16 +75,6 @@ record Witness (diagonals edges : Piece → Type 0) (C : Cell) : Type 0 where
   corners : NothingAtCorners C D
   where_not : Piece
   not_zero : ¬ Zero (D where_not)
-
-four_turns : (k : Piece) → next (next (next (next k))) ≡ k
-unfolding next
-four_turns top = refl
-four_turns right = refl
-four_turns bottom = refl
-four_turns left = refl
-
-next_apart : {k l : Piece} → ¬ (k ≡ l) → ¬ (next k ≡ next l)
-next_apart {k} {l} n e = n (sym (four_turns k) ∙ ap (λ j. next (next (next j))) e ∙ four_turns l)
 
 -- a quarter turn
 turned : {diagonals edges diagonals' edges' : Piece → Type 0} {C : Cell} →
@@ -160,15 +151,6 @@ without_edge right = no_next right (no_next bottom (no_next left no_top))
 
 -- ---- all edges and two half diagonals
 
-abbrev Neither : Piece → Piece → Piece → Type 0
-Neither j k l = ¬ (l ≡ j) × ¬ (l ≡ k)
-
-abbrev neither : Piece → Piece → Piece → Bool
-neither j k l = differs j l && differs k l
-
-apart_both : (j k l : Piece) → Neither j k l → T (neither j k l)
-apart_both j k l (a, b) = and (differs j l) (differs k l) (apart j l a) (apart k l b)
-
 -- s² on the top piece alone
 beside_top : Coefficients
 beside_top top = + 0 ∷ + 0 ∷ + 0 ∷ + 0 ∷ + 0 ∷ + 1 ∷ []
@@ -204,7 +186,7 @@ no_left k n C =
 both_next : (j : Piece) → ((k : Piece) → Not (next j) k → (C : Cell) → Witness (Neither (next j) k) All C) →
     (k : Piece) → Not j k → (C : Cell) → Witness (Neither j k) All C
 both_next j w k n C =
-    turned {diagonals = Neither (next j) (next k)} {edges = All} (λ l t. (next_apart t.0, next_apart t.1)) (λ l t. t) (w (next k) (next_apart n) (on_side C))
+    turned {diagonals = Neither (next j) (next k)} {edges = All} (next_neither j k) (λ l t. t) (w (next k) (next_apart n) (on_side C))
 
 without_both : (j k : Piece) → Not j k → (C : Cell) → Witness (Neither j k) All C
 unfolding next

@@ -1,1 +1,2 @@
+mod Neither
 pub mod Counterexamples

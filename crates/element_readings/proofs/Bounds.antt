@@ -19,6 +19,7 @@ use Rattle.element_readings.proofs.WithinFractions.{within-÷, within-·, at_mos
 use Rattle.element_readings.proofs.Rounded.{rounded_within}
 use Rattle.element_readings.proofs.WeightSums.{coefficients}
 use Rattle.element_readings.proofs.Parts.{divisor_is}
+use Rattle.element_readings.proofs.Limits.{halves_limit}
 use Rattle.element_readings.proofs.HeightBounds.{heights}
 use Rattle.element_readings.proofs.SlopeBounds.{cell_within, size_by_r, size_by_s, size_by_r_by_r, size_by_s_by_r, size_by_s_by_s}
 
@@ -37,7 +38,7 @@ pixel_in_lem C a b h l = record {
 levels : (C : Cell) (n : CornerNumbers) → AllWithin largest n → (k : Piece) (P : Point) → On k P → nat_abs (level_of C (sibson n k) P) < 2 ^ 20
 unfolding level_of jet
 levels C n h k P o = lt_of_le_of_lt
-    (rounded_within 393120 (heights n largest h k P o) (at_most (3 * largest) 393120 (positive 2 tt) (omega arith))).bound (lit< tt)
+    (rounded_within 393120 (heights n largest h k P o) (at_most (halves_limit * largest) 393120 (positive 2 tt) (omega arith))).bound (lit< tt)
 
 -- a derivative whose coefficients add up to at most 3 times, or 6 times, those of the piece
 module _ (n : CornerNumbers) (h : AllWithin largest n) (k : Piece) (P : Point) (c : InCell P) (g : Cubic) (d : g.divisor.number ≡ 2) where

@@ -1,4 +1,6 @@
 pub mod WithinFractions
+mod Limits
+mod RoundedFractions
 pub mod Rounded
 pub mod WeightSums
 pub mod Form

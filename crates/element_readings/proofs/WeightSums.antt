@@ -3,7 +3,7 @@ use mathlib.Core.Path.{◌≡◌, refl, sym, ◌∙◌, ap, subst}
 use mathlib.Core.Bool.{Bool}
 use mathlib.Core.List.{List, [], ◌∷◌, map}
 use Prim.Native.Nat.{ℕ, ◌+◌, ◌*◌, ◌≤◌, zero-le}
-use native.Mathlib.Nat.{le_trans, mul-le-mul_right}
+use native.Mathlib.Nat.{mul-le-mul_right}
 use native.Mathlib.Omega.{arith}
 use lib.Dec.{T, leb, leb→le}
 use lib.ListN.{get_or}
@@ -21,6 +21,7 @@ use Rattle.element_sibson.proofs.Quote.{coefficientₑ}
 use Rattle.element_sibson.proofs.QuoteElement.{weighedₑ, numbersₑ, elementₑ, sibson_is}
 use Rattle.element_cell.specs.Corners.{AllWithin}
 use Rattle.element_cell.specs.Coefficients.{listed, size}
+use Rattle.element_readings.proofs.Limits.{weights_limit}
 use Rattle.element_readings.specs.WeightSums.{alone, unit_height, unit_x, unit_y, written, sizes, WeightSums}
 
 -- ---- what is written out gives the piece
@@ -68,12 +69,12 @@ totals : (sizes (written top) ≡ 108) × (sizes (written right) ≡ 248) × (si
 unfolding size sizes written listed alone in_order weights weighed halved transposed flipped mirrored swap negate_x negate_y exchanged top_down left_right on_top on_left sibson
 totals = (refl, refl, refl, refl)
 
-small : (k : Piece) → T (leb (sizes (written k)) 256)
+small : (k : Piece) → T (leb (sizes (written k)) weights_limit)
 unfolding size sizes written listed alone in_order weights weighed halved transposed flipped mirrored swap negate_x negate_y exchanged top_down left_right on_top on_left sibson
-small = every_piece_lem (λ k. leb (sizes (written k)) 256) tt
+small = every_piece_lem (λ k. leb (sizes (written k)) weights_limit) tt
 
-sums : (k : Piece) → sizes (written k) ≤ 256
-sums k = leb→le (sizes (written k)) 256 (small k)
+sums : (k : Piece) → sizes (written k) ≤ weights_limit
+sums k = leb→le (sizes (written k)) weights_limit (small k)
 
 -- ---- the coefficients
 
@@ -134,7 +135,7 @@ unfolding written listed halved
 halved_size n N h k = weighed_size N (parts k) (in_order n) (each_within h)
 
 pub coefficients : (n : CornerNumbers) (N : ℕ) → AllWithin N n → (k : Piece) → size (listed (sibson n k)) ≤ 256 * N
-coefficients n N h k = subst (λ f. size (listed f) ≤ 256 * N) (gives k n) (le_trans (halved_size n N h k) (mul-le-mul_right N (sums k)))
+coefficients n N h k = subst (λ f. size (listed f) ≤ 256 * N) (gives k n) (omega (arith, halved_size n N h k, mul-le-mul_right N (sums k)))
 
 pub weight_sums : WeightSums
 weight_sums = record { gives = gives; totals = totals; sums = sums; coefficients = coefficients }
