@@ -18,7 +18,7 @@ use Rattle.light_sheet_c.proofs.Stored.{over_size, over_behind}
 use Rattle.light_sheet_demands.specs.Demands.{DemandOne}
 use Rattle.light_sheet_demands.proofs.Refusals.{check_gives, lookup_gives, setting_gives, slopes_gives, pool_gives, reading_gives, bends_gives, run_gives, zoned_gives, zoned_run_gives}
 use Rattle.light_sheet_demands.proofs.Readings.{refused_reading_lem, no_values_lem, few_words, none_stored}
-use Rattle.light_sheet_demands.proofs.Slopes.{kept}
+use Rattle.light_sheet_demands.proofs.KeptHeights.{kept}
 use Rattle.light_sheet_demands.proofs.Lists.{refused_list, behind_list, buffer_kept, count_written, count_kept}
 use Rattle.light_sheet_demands.proofs.ZonedLevels.{refused_level, level_kept, level_written}
 

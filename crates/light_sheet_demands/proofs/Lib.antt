@@ -3,6 +3,7 @@ pub mod Values
 pub mod Readings
 pub mod Sizes
 pub mod Rounding
+pub mod KeptHeights
 pub mod Slopes
 pub mod DemandOne
 pub mod DemandTwo

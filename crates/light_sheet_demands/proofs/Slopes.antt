@@ -2,7 +2,6 @@
 use Prim.Native.Nat.{ℕ, suc, ◌+◌, ◌*◌, ◌-◌, ◌≤◌, ◌<◌}
 use mathlib.Core.Path.{◌≡◌, sym, ◌∙◌, ap}
 use mathlib.Core.List.{List, [], ◌∷◌}
-use native.Mathlib.Decide.{ℕ_discrete}
 use native.Mathlib.Omega.{arith}
 use lib.IntN.{ℤ, pos, ◌-ℤ◌, ◌*ℤ◌}
 use Rattle.integers.specs.Round.{round}
@@ -20,7 +19,6 @@ use Rattle.sheet_layout.proofs.NeighbourLaws.{neighbour_laws, last_is}
 use Rattle.sheet_slopes.specs.Slopes.{rise, distance, SameHeights, slope_along, filled_x, filled_y, slope_refusal, with_slopes}
 use Rattle.sheet_slopes.specs.SlopeLaws.{Filled}
 use Rattle.sheet_slopes.proofs.Chain.{slope_held}
-use Rattle.sheet_slopes.proofs.Same.{same_self}
 use Rattle.sheet_slopes.proofs.Laws.{slope_laws}
 use Rattle.surface_answers.specs.Answers.{outcome, answered}
 use Rattle.surface_answers.specs.declared.Answer.{Answer}
@@ -28,6 +26,7 @@ use Rattle.surface_of_sheet.proofs.AtNodes.{at_nodes}
 use Rattle.light_sheet_demands.specs.CallRecords.{FillSlopes, Read}
 use Rattle.light_sheet_demands.specs.Demands.{given}
 use Rattle.light_sheet_demands.specs.Slopes.{FromHeights, Evenly, SlopeFilling}
+use Rattle.light_sheet_demands.proofs.KeptHeights.{kept}
 use Rattle.light_sheet_demands.proofs.Values.{outcome_is}
 
 -- ---- along an axis
@@ -132,12 +131,6 @@ module _ {s t : List ℕ} {k : ℕ} (c : FillSlopes s k 0 t) where
         (at_nodes.read_tilts t i j left.accepted (rw left.lines.same_columns h) (rw left.lines.same_rows l))
 
 -- ---- of every call
-
-pub kept : {s t : List ℕ} {k n : ℕ} → FillSlopes s k n t → SameHeights s t
-kept {s} {k = k} c = rw c.sheet (elim (ℕ_discrete (slope_refusal s k) 0) [
-  | yes e ↦ (slope_laws.filled s k e).same
-  | no h ↦ rw (slope_laws.refused s k h) (same_self s)
-])
 
 again : {s t t' : List ℕ} {k n n' : ℕ} → FillSlopes s k n t → FillSlopes t k n' t' → (n' ≡ n) × (t' ≡ t)
 again {s} {k = k} c d = (
