@@ -1,7 +1,7 @@
 -- Horner's rule along a row: neither the coefficients nor any part of the rule exceeds the row's reach. Assumes nothing.
 use mathlib.Core.Path.{◌≡◌, subst}
 use mathlib.Core.List.{List}
-use Prim.Native.Nat.{ℕ, ◌+◌, ◌*◌, ◌^◌, ◌≤◌}
+use Prim.Native.Nat.{ℕ, ◌+◌, ◌*◌, ◌≤◌}
 use native.Mathlib.Omega.{arith}
 use lib.ListN.{get_or}
 use lib.IntN.{ℤ, pos, nat_abs, ◌+ℤ◌, ◌*ℤ◌}
@@ -10,13 +10,14 @@ use Rattle.integers.proofs.Bounds.{is_within, within_self, within_mono, within-+
 use Rattle.integers.proofs.Polynomial.{◌⊕◌, ◌⊗◌}
 use Rattle.integers.proofs.Solve.{◌≐◌, solve}
 use Rattle.element_row_cubic.specs.Row.{at_offset, reach}
+use Rattle.element_row_cubic.proofs.Limits.{reach_limit}
 
-module _ (p : List ℤ) {a : ℕ} (r : reach p ≤ 2 ^ 62) (u : a ≤ 64) where
+module _ (p : List ℤ) {a : ℕ} (r : reach p ≤ reach_limit) (u : a ≤ 64) where
   abbrev coefficient : ℕ → ℤ
   coefficient i = get_or p i (pos 0)
 
   abbrev M : ℕ
-  M = 2 ^ 62
+  M = reach_limit
 
   -- p₃, p₂ + a p₃, p₁ + a (p₂ + a p₃), and bounds of them
   abbrev bound₂ : ℕ

@@ -1,3 +1,4 @@
+mod Limits
 pub mod Horner
 pub mod RowBounds
 pub mod Denominators

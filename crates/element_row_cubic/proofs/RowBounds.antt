@@ -14,6 +14,7 @@ use Rattle.element_cell.specs.Corners.{largest}
 use Rattle.element_cell.specs.Coefficients.{listed, size, halves, Sized}
 use Rattle.element_cell.proofs.Sides.{length_within, square_within, cube_within, side_is}
 use Rattle.element_row_cubic.specs.Row.{down, along_row, reach}
+use Rattle.element_row_cubic.proofs.Limits.{reach_limit}
 
 -- the first four
 unfoldable four : List ℤ → ℕ
@@ -39,7 +40,7 @@ down_within c {b} {h} u v =
     (omega (arith, four_in_size c))
 
 -- p₀ + 64 (p₁ + 64 (p₂ + 64 p₃)), where pᵢ is w³⁻ⁱ times the polynomial in s that stands at rⁱ
-along_row_reach : (C : Cell) (f : Cubic) (b : ℕ) → C.W.number ≤ 64 → C.H.number ≤ 64 → b ≤ 64 → size (listed f) ≤ 256 * largest → reach (along_row C f b) ≤ 2 ^ 62
+along_row_reach : (C : Cell) (f : Cubic) (b : ℕ) → C.W.number ≤ 64 → C.H.number ≤ 64 → b ≤ 64 → size (listed f) ≤ 256 * largest → reach (along_row C f b) ≤ reach_limit
 unfolding along_row reach listed size
 along_row_reach C f b w h u s =
     let p₀ = (within-* (cube_within w) (polynomial (f.c00 ∷ f.c01 ∷ f.c02 ∷ f.c03 ∷ []))).bound in
@@ -51,7 +52,7 @@ along_row_reach C f b w h u s =
     polynomial : (c : List ℤ) → down c b C.H.number within (size c * 2 ^ 18)
     polynomial c = down_within c u h
 
-pub row_reach : {k : List ℤ} {w h b : ℕ} → Sized k → Side w → Side h → b ≤ h → reach (along_row (cell w h) (halves k) b) ≤ 2 ^ 62
+pub row_reach : {k : List ℤ} {w h b : ℕ} → Sized k → Side w → Side h → b ≤ h → reach (along_row (cell w h) (halves k) b) ≤ reach_limit
 unfolding cell
 row_reach {k} {w} {h} {b} s u v down = along_row_reach (cell w h) (halves k) b
     (subst⁻¹ (λ (l : ℕ). l ≤ 64) (side_is u) u.most) (subst⁻¹ (λ (l : ℕ). l ≤ 64) (side_is v) v.most) (le_trans down v.most) s.sum

@@ -65,15 +65,8 @@ later c = early c.before
 abbrev latest : tie.After-result-5-1 → tie.After-length-a
 latest c = later c.before.before
 
-returns : tie.Need-returns
-unfolding differences
-returns c = let v = c.before.before.before.before.before.before in let l = v.before in let row = l.before.args.row in let o = l.before.args.offset in λ i.
-    (returned w64 v.at_offset.ensures (at_offset_within row l.before.requires.1 l.before.requires.0) tt).reads i ∷
-    (gives w64 (first l) tt ∙ first_is row o) i ∷
-    (gives w64 (second l) tt ∙ second_is row o) i ∷
-    (gives w64 (third l) tt ∙ third_is row o) i ∷ []
-
 pub differences_spec : {M : Type 1} → statement M
+unfolding differences
 differences_spec =
     tie.close
     (tie.spec
@@ -99,4 +92,8 @@ differences_spec =
     (λ c. asks w64 (second (latest c)) tt)
     (λ c. search rules)
     (λ c. asks w64 (third (latest c.before)) tt)
-    returns)
+    (λ c. let v = c.before.before.before.before.before.before in let l = v.before in let row = l.before.args.row in let o = l.before.args.offset in λ i.
+    (returned w64 v.at_offset.ensures (at_offset_within row l.before.requires.1 l.before.requires.0) tt).reads i ∷
+    (gives w64 (first l) tt ∙ first_is row o) i ∷
+    (gives w64 (second l) tt ∙ second_is row o) i ∷
+    (gives w64 (third l) tt ∙ third_is row o) i ∷ []))

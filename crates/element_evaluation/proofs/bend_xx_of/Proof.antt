@@ -13,11 +13,9 @@ abbrev quotient : tie.After-length → Quotient
 quotient c = let u = c.before in let d = u.before in
     quotient_of d.before.requires.1 d.by_rr.ensures (cube_is u.cube.ensures) (length_is c.length.ensures)
 
-returns : tie.Need-returns
-returns c = unchanged w64 c.curvature.type_inv ∙ curvature_is (quotient c.before) c.curvature.ensures (bend_xx_is _ _ _ _)
-
 pub bend_xx_of_spec : {M : Type 1} → statement M
 bend_xx_of_spec =
     tie.close
     (tie.spec (λ c κs. search rules) (λ c κs. search rules) (λ c κs. search rules)
-    (λ c κs. asked (quotient c) (by_rr_each c.before.before.before.requires.0)) returns)
+    (λ c κs. asked (quotient c) (by_rr_each c.before.before.before.requires.0))
+    (λ c. unchanged w64 c.curvature.type_inv ∙ curvature_is (quotient c.before) c.curvature.ensures (bend_xx_is _ _ _ _)))

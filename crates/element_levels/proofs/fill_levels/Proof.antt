@@ -75,16 +75,6 @@ rounded-level-requires c κs = let l = c.before in rw ((value l).reads, value_is
 slice-set-from-row : tie.Need-bounds-row-at invariant-loop decreases-loop
 slice-set-from-row c = let l = c.before.before in omega (arith, kept l.before, l.loop-k-test.true, (start l.before).requires.1)
 
-loop-again : tie.Need-loop-k-preserved invariant-loop decreases-loop
-loop-again c = let l = c.before.before.before in let a = (start l.before).args in let k = l.before.loop-k.k in
-    λ p e. let h = l.before.loop-k.invariant p e in (
-      goes_on h.0 l.loop-k-test.true (unchanged w32 c.before.rounded_level.type_inv ∙ c.before.rounded_level.ensures ∙ ap (λ z. round z (nat_abs a.d.value)) ((value l).reads ∙ value_is p _ h.1) ∙ sym (starting_at_lem a.at (level p a.offset a.d) k)),
-      c.stepped-z.ensures ∙ ap stepped h.1 ∙ steps_on p (a.offset + k) ∙ ap (λ n. differences p n) (add_assoc a.offset k 1),
-    )
-
-returns-2 : tie.Need-returns invariant-loop decreases-loop
-returns-2 c = all_made (held c.before).0 c.loop-k-test.false
-
 pub fill_levels_spec : {M : Type 1} → statement M
 fill_levels_spec =
     tie.close
@@ -102,6 +92,9 @@ fill_levels_spec =
     (λ c κs. may c.before.before)
     (λ c. search rules)
     (λ c. search rules)
-    loop-again
+    (λ c p e. let l = c.before.before.before in let a = (start l.before).args in let k = l.before.loop-k.k in let h = l.before.loop-k.invariant p e in (
+      goes_on h.0 l.loop-k-test.true (unchanged w32 c.before.rounded_level.type_inv ∙ c.before.rounded_level.ensures ∙ ap (λ z. round z (nat_abs a.d.value)) ((value l).reads ∙ value_is p _ h.1) ∙ sym (starting_at_lem a.at (level p a.offset a.d) k)),
+      c.stepped-z.ensures ∙ ap stepped h.1 ∙ steps_on p (a.offset + k) ∙ ap (λ n. differences p n) (add_assoc a.offset k 1),
+    ))
     (λ c. kept c.before)
-    returns-2)
+    (λ c. all_made (held c.before).0 c.loop-k-test.false))

@@ -7,7 +7,8 @@ use borrow.Author.Rules.{rules}
 use Rattle.element_spans.specs.Span.{end_of, ceiling}
 use Rattle.element_spans.specs.Ends.{ends_of}
 use Rattle.element_spans.proofs.Divisions.{floor_most, ceiling_most}
-use Rattle.element_spans.proofs.Crossing.{height_fits, upper_is, lower_is, upper_middle, lower_middle, upper_ends, lower_ends}
+use Rattle.element_spans.proofs.UpperHalf.{height_fits, upper_ends}
+use Rattle.element_spans.proofs.Crossing.{upper_is, lower_is, upper_middle, lower_middle, lower_ends}
 use Rattle.element_spans.proofs.span_ends.Statement.{statement}
 use Rattle.element_spans.proofs.span_ends.Tie as tie
 
@@ -27,12 +28,6 @@ start c = c.before.before.before
 fits : (s : tie.Start) → let p = s.args.p in (p.b * p.width / p.height ≤ p.width) × (ceiling (p.b * p.width) p.height ≤ p.width)
 fits s = let p = s.args.p in let y = p.b * p.width in let d = s.requires.height.least in
     (floor_most y d p.width (products s).0, ceiling_most y d p.width (products s).0)
-
-sub-t7 : tie.Need-overflow_sub-result
-sub-t7 c = let u = c.before.before.before.before in rw u.ceiling-up.ensures (fits (start u)).1
-
-sub-t5 : tie.Need-overflow_sub-result-2
-sub-t5 c = (fits (start c.before.before.before.before)).0
 
 returns : tie.Need-returns-then-p
 unfolding ends_of
@@ -57,4 +52,13 @@ returns-2 c = let u = c.before.before.before.before in let s = start u in let p 
 pub span_ends_spec : {M : Type 1} → statement M
 span_ends_spec =
     tie.close
-    (tie.spec mul-y (λ c. search rules) ceiling-requires (λ c. search rules) sub-t7 (λ c. search rules) returns sub-t5 returns-2)
+    (tie.spec
+    mul-y
+    (λ c. search rules)
+    ceiling-requires
+    (λ c. search rules)
+    (λ c. let u = c.before.before.before.before in rw u.ceiling-up.ensures (fits (start u)).1)
+    (λ c. search rules)
+    returns
+    (λ c. (fits (start c.before.before.before.before)).0)
+    returns-2)

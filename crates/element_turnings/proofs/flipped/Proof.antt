@@ -52,15 +52,8 @@ of-s² s = k s 5 ⊞ stored w64 (thrice s) tt
 abbrev entry : tie.After-sss-1 → tie.Start
 entry c = c.before.before.before.before.before.before.before.before.before.before
 
-returns : tie.Need-returns
-unfolding listed flipped halves
-returns c i = let s = entry c in
-    gives w64 (of-1 s) tt i ∷ gives w64 (of-r s) tt i ∷ gives w64 (opposite (stored w64 (of-s s) tt)) tt i ∷ gives w64 (k s 3 ⊞ k s 7) tt i ∷
-    gives w64 (opposite (stored w64 (of-rs s) tt)) tt i ∷ gives w64 (of-s² s) tt i ∷
-    (k s 6).reads i ∷ gives w64 (opposite (k s 7)) tt i ∷ (k s 8).reads i ∷ gives w64 (opposite (k s 9)) tt i ∷ []
-
 pub flipped_spec : {M : Type 1} → statement M
-unfolding listed halves
+unfolding listed flipped halves
 flipped_spec =
     tie.close
     (tie.spec
@@ -92,4 +85,7 @@ flipped_spec =
     (λ c. asks w64 (of-s² (entry c)) tt)
     (λ c. asks w64 (opposite (k (entry c) 7)) tt)
     (λ c. asks w64 (opposite (k (entry c) 9)) tt)
-    returns)
+    (λ c i. let s = entry c in
+    gives w64 (of-1 s) tt i ∷ gives w64 (of-r s) tt i ∷ gives w64 (opposite (stored w64 (of-s s) tt)) tt i ∷ gives w64 (k s 3 ⊞ k s 7) tt i ∷
+    gives w64 (opposite (stored w64 (of-rs s) tt)) tt i ∷ gives w64 (of-s² s) tt i ∷
+    (k s 6).reads i ∷ gives w64 (opposite (k s 7)) tt i ∷ (k s 8).reads i ∷ gives w64 (opposite (k s 9)) tt i ∷ []))
