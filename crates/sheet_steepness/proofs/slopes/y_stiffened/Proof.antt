@@ -3,7 +3,7 @@ use mathlib.Core.Path.{◌≡◌, ◌∙◌, ap}
 use borrow.Author.Rules.{rules}
 use native.Mathlib.Nat.{lt_of_le_of_lt}
 use Rattle.sheet_layout.specs.Format.{rows, height_at}
-use Rattle.sheet_layout.specs.Neighbours.{previous, next}
+use Rattle.sheet_layout.specs.Neighbours.{next}
 use Rattle.sheet_layout.proofs.NeighbourLaws.{previous-≤, next-<}
 use Rattle.sheet_steepness.proofs.Rises.{heights_on, rise_is}
 use Rattle.sheet_steepness.proofs.slopes.y_stiffened.Statement.{statement}
