@@ -2,5 +2,6 @@ pub mod Begun
 pub mod Input
 pub mod Lengths
 pub mod Sequence
+pub mod RowCount
 pub mod Texts
 pub mod Worked

@@ -1,5 +1,5 @@
 -- The texts that are printed one after the other: which they are, and what is proved of them. Assumes nothing.
-use Prim.Native.Nat.{ℕ, ◌+◌, ◌-◌, ◌≤◌, ◌<◌}
+use Prim.Native.Nat.{ℕ, ◌+◌, ◌≤◌, ◌<◌}
 use mathlib.Core.Path.{◌≡◌, refl, ◌∙◌, ap}
 use mathlib.Core.List.{List, []}
 use native.Mathlib.Decide.{dec_lt, ℕ_discrete}
@@ -10,19 +10,16 @@ use Rattle.sheet_calls.specs.Refusals.{sheet_refusal}
 use Rattle.sheet_calls.proofs.Chains.{accepts}
 use Rattle.surface_of_sheet.proofs.Cells.{last_y_near}
 use Rattle.program_text.specs.Text.{refused_line}
-use Rattle.program_listing.specs.Listing.{sequence, first_y, last_y, OnRow, row_text, printed, text_count, next_text}
+use Rattle.program_listing.specs.Listing.{sequence, first_y, OnRow, row_text, printed, text_count, next_text}
 use Rattle.program_listing.proofs.Begun.{row_some}
+use Rattle.program_listing.proofs.RowCount.{row_count_lem}
 use Rattle.program_listing.proofs.Sequence.{sequence_same, sequence_ended}
 
 -- ---- of an accepted sheet: the rows
 
 module _ (s : List ℕ) (accepted : sheet_refusal s ≡ 0) where
-  pub row_count_lem : text_count s ≡ last_y s + 1 - first_y s
-  unfolding text_count
-  row_count_lem = rw accepted refl
-
   pub row_there : (k : ℕ) → k < text_count s → OnRow s (first_y s + k)
-  row_there k h = record { accepted = accepts accepted; top = omega arith; bottom = omega (arith, row_count_lem) }
+  row_there k h = record { accepted = accepts accepted; top = omega arith; bottom = omega (arith, row_count_lem s accepted) }
 
   pub row_next : (k : ℕ) → k < text_count s → next_text s k ≡ row_text s (first_y s + k)
   unfolding next_text
@@ -30,7 +27,7 @@ module _ (s : List ℕ) (accepted : sheet_refusal s ≡ 0) where
 
   rows_whole : sequence (next_text s) (text_count s) ≡ printed s
   unfolding printed
-  rows_whole = sequence_same (next_text s) (λ k. row_text s (first_y s + k)) (text_count s) row_next ∙ rw (row_count_lem, accepted) refl
+  rows_whole = sequence_same (next_text s) (λ k. row_text s (first_y s + k)) (text_count s) row_next ∙ rw (row_count_lem s accepted, accepted) refl
 
 -- ---- of a refused one: the refusal's line
 

@@ -6,7 +6,8 @@ use Rattle.sheet_calls.proofs.Chains.{accepts}
 use Rattle.sheet_calls.proofs.WellFormed.{lines_there}
 use Rattle.surface_of_sheet.proofs.Cells.{sound, last_y_near}
 use Rattle.program_listing.proofs.Lengths.{first_inside}
-use Rattle.program_listing.proofs.Texts.{row_count_lem, line_count}
+use Rattle.program_listing.proofs.RowCount.{row_count_lem}
+use Rattle.program_listing.proofs.Texts.{line_count}
 use Rattle.program_listing.proofs.text_count.Statement.{statement}
 use Rattle.program_listing.proofs.text_count.Tie as tie
 
