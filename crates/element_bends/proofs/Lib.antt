@@ -1,1 +1,2 @@
+mod Sequence
 pub mod Stores
