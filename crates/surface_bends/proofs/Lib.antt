@@ -1,5 +1,7 @@
 pub mod InTurn
 pub mod Touched
+pub mod CellsListed
+pub mod RowByRow
 pub mod Listing
 pub mod Edges
 pub mod Counting
