@@ -33,7 +33,8 @@ def new_name(n):
     words = []
     for w in out.split("_"):
         if w and w[0].islower():
-            w = re.sub(r"(?<=[a-z0-9])([A-Z]+)", lambda m: "_" + m.group(1).lower(), w)
+            w = re.sub(r"(?<=[a-z0-9])(?=[A-Z])|(?<=[A-Z])(?=[A-Z][a-z])", "_", w)
+            w = "".join(c.lower() if c.isascii() else c for c in w)
         elif w and len(w) == 1 and w.isupper() and w.isascii():
             w = w.lower()
         words.append(w)

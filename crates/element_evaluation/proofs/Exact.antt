@@ -12,7 +12,7 @@ use Rattle.element_sibson.specs.Cubic.{Cell, pixel, value, by_r, by_s, jet, bend
 use Rattle.element_sibson.proofs.Fractions.{≈_trans, ≈-÷, ≈-·}
 use Rattle.element_sibson.proofs.Quote.{◌/ₑ◌, Cubicₑ, valueₑ, equal}
 use Rattle.element_cell.specs.Coefficients.{listed, halves}
-use Rattle.element_readings.specs.Reading.{tilt_xof, tilt_yof, bend_xxof, bend_xyof, bend_yyof}
+use Rattle.element_readings.specs.Reading.{tilt_x_of, tilt_y_of, bend_xx_of, bend_xy_of, bend_yy_of}
 use Rattle.element_row_cubic.proofs.Heights.{rₑ, sₑ, offset, rounded_over}
 use Rattle.element_evaluation.specs.LowDegree.{scaled_of, linear_at, quadratic_at}
 
@@ -75,16 +75,16 @@ module _ (C : Cell) (k : List ℤ) (a b : ℕ) where
   abbrev h : ℕ
   h = H.number
 
-  pub tilt_x_is : tilt_xof C (halves k) (pixel C a b) ≡ round (quadratic_at (take 6 (listed (by_r (halves k)))) (scaled_of C a b)) (2 * (w * w * w * (h * h)))
-  unfolding tilt_xof jet by_r listed halves
+  pub tilt_x_is : tilt_x_of C (halves k) (pixel C a b) ≡ round (quadratic_at (take 6 (listed (by_r (halves k)))) (scaled_of C a b)) (2 * (w * w * w * (h * h)))
+  unfolding tilt_x_of jet by_r listed halves
   tilt_x_is = let n = quadratic_at (take 6 (listed (by_r (halves k)))) (scaled_of C a b) in
       rounded_over n (positive 2 tt *⁺ (W *⁺ W *⁺ W *⁺ (H *⁺ H)))
       (≈_trans {y = whole n ÷ (positive 2 tt *⁺ (W *⁺ W *⁺ (H *⁺ H))) ÷ W}
       (≈-÷ W (quadratic_is C a b (k_at 1) (pos 2 *ℤ k_at 3) (k_at 4) (pos 3 *ℤ k_at 6) (pos 2 *ℤ k_at 7) (k_at 8)))
       (record { crossed = solve 3 (λ n w h. n ⊗ (# 1 ⊗ (# 2 ⊗ (w ⊗ w ⊗ w ⊗ (h ⊗ h)))) ≐ n ⊗ (# 1 ⊗ (# 2 ⊗ (w ⊗ w ⊗ (h ⊗ h))) ⊗ w)) tt n (pos w) (pos h) }))
 
-  pub tilt_y_is : tilt_yof C (halves k) (pixel C a b) ≡ round (quadratic_at (take 6 (listed (by_s (halves k)))) (scaled_of C a b)) (2 * (w * w * (h * h * h)))
-  unfolding tilt_yof jet by_s listed halves
+  pub tilt_y_is : tilt_y_of C (halves k) (pixel C a b) ≡ round (quadratic_at (take 6 (listed (by_s (halves k)))) (scaled_of C a b)) (2 * (w * w * (h * h * h)))
+  unfolding tilt_y_of jet by_s listed halves
   tilt_y_is = let n = quadratic_at (take 6 (listed (by_s (halves k)))) (scaled_of C a b) in
       rounded_over n (positive 2 tt *⁺ (W *⁺ W *⁺ (H *⁺ H *⁺ H)))
       (≈_trans {y = whole n ÷ (positive 2 tt *⁺ (W *⁺ W *⁺ (H *⁺ H))) ÷ H}
@@ -100,24 +100,24 @@ module _ (C : Cell) (k : List ℤ) (a b : ℕ) where
   abbrev yy : List ℤ
   yy = take 3 (listed (by_s (by_s (halves k))))
 
-  pub bend_xx_is : bend_xxof C (halves k) (pixel C a b) ≡ round (pos 64 *ℤ linear_at xx (scaled_of C a b)) (2 * (w * w * w * h))
-  unfolding bend_xxof bend by_r listed halves
+  pub bend_xx_is : bend_xx_of C (halves k) (pixel C a b) ≡ round (pos 64 *ℤ linear_at xx (scaled_of C a b)) (2 * (w * w * w * h))
+  unfolding bend_xx_of bend by_r listed halves
   bend_xx_is = let n = linear_at xx (scaled_of C a b) in
       rounded_over (pos 64 *ℤ n) (positive 2 tt *⁺ (W *⁺ W *⁺ W *⁺ H))
       (≈_trans {y = pos 64 ·ℚ (whole n ÷ (positive 2 tt *⁺ (W *⁺ H)) ÷ W ÷ W)}
       (≈-· (pos 64) (≈-÷ W (≈-÷ W (linear_is C a b (pos 2 *ℤ k_at 3) (pos 2 *ℤ (pos 3 *ℤ k_at 6)) (pos 2 *ℤ k_at 7)))))
       (record { crossed = solve 3 (λ n w h. # 64 ⊗ n ⊗ (# 1 ⊗ (# 2 ⊗ (w ⊗ w ⊗ w ⊗ h))) ≐ # 64 ⊗ n ⊗ (# 1 ⊗ (# 2 ⊗ (w ⊗ h)) ⊗ w ⊗ w)) tt n (pos w) (pos h) }))
 
-  pub bend_xy_is : bend_xyof C (halves k) (pixel C a b) ≡ round (pos 64 *ℤ linear_at xy (scaled_of C a b)) (2 * (w * w * (h * h)))
-  unfolding bend_xyof bend by_r by_s listed halves
+  pub bend_xy_is : bend_xy_of C (halves k) (pixel C a b) ≡ round (pos 64 *ℤ linear_at xy (scaled_of C a b)) (2 * (w * w * (h * h)))
+  unfolding bend_xy_of bend by_r by_s listed halves
   bend_xy_is = let n = linear_at xy (scaled_of C a b) in
       rounded_over (pos 64 *ℤ n) (positive 2 tt *⁺ (W *⁺ W *⁺ (H *⁺ H)))
       (≈_trans {y = pos 64 ·ℚ (whole n ÷ (positive 2 tt *⁺ (W *⁺ H)) ÷ W ÷ H)}
       (≈-· (pos 64) (≈-÷ H (≈-÷ W (linear_is C a b (k_at 4) (pos 2 *ℤ k_at 7) (pos 2 *ℤ k_at 8)))))
       (record { crossed = solve 3 (λ n w h. # 64 ⊗ n ⊗ (# 1 ⊗ (# 2 ⊗ (w ⊗ w ⊗ (h ⊗ h)))) ≐ # 64 ⊗ n ⊗ (# 1 ⊗ (# 2 ⊗ (w ⊗ h)) ⊗ w ⊗ h)) tt n (pos w) (pos h) }))
 
-  pub bend_yy_is : bend_yyof C (halves k) (pixel C a b) ≡ round (pos 64 *ℤ linear_at yy (scaled_of C a b)) (2 * (w * (h * h * h)))
-  unfolding bend_yyof bend by_s listed halves
+  pub bend_yy_is : bend_yy_of C (halves k) (pixel C a b) ≡ round (pos 64 *ℤ linear_at yy (scaled_of C a b)) (2 * (w * (h * h * h)))
+  unfolding bend_yy_of bend by_s listed halves
   bend_yy_is = let n = linear_at yy (scaled_of C a b) in
       rounded_over (pos 64 *ℤ n) (positive 2 tt *⁺ (W *⁺ (H *⁺ H *⁺ H)))
       (≈_trans {y = pos 64 ·ℚ (whole n ÷ (positive 2 tt *⁺ (W *⁺ H)) ÷ H ÷ H)}

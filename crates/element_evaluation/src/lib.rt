@@ -9,7 +9,7 @@ ghost use Rattle.integers.specs.Round.{round};
 ghost use Rattle.element_cell.specs.Cell.{pixel_cell, pixel_point, PixelInCell};
 ghost use Rattle.element_cell.specs.Corners.{largest};
 ghost use Rattle.element_cell.specs.Coefficients.{halves, Sized};
-ghost use Rattle.element_readings.specs.Reading.{level_of, tilt_xof, tilt_yof, bend_xxof, bend_xyof, bend_yyof};
+ghost use Rattle.element_readings.specs.Reading.{level_of, tilt_x_of, tilt_y_of, bend_xx_of, bend_xy_of, bend_yy_of};
 ghost use Rattle.element_evaluation.specs.Needs.{EachWithin, Factor};
 ghost use Rattle.element_evaluation.specs.LowDegree.{scaled_of, linear_at, quadratic_at};
 
@@ -30,14 +30,14 @@ pub fn level_of(k: [i64; 10], p: Pixel) -> i64
 // The tilt along x, and along y, in grains per pixel.
 pub fn tilt_x_of(k: [i64; 10], p: Pixel) -> i64
     requires { Sized k × PixelInCell p }
-    ensures { result ≡ tilt_xof (pixel_cell p) (halves k) (pixel_point p) }
+    ensures { result ≡ tilt_x_of (pixel_cell p) (halves k) (pixel_point p) }
 {
     slope(by_r(k), p, cube(p.width), square(p.height))
 }
 
 pub fn tilt_y_of(k: [i64; 10], p: Pixel) -> i64
     requires { Sized k × PixelInCell p }
-    ensures { result ≡ tilt_yof (pixel_cell p) (halves k) (pixel_point p) }
+    ensures { result ≡ tilt_y_of (pixel_cell p) (halves k) (pixel_point p) }
 {
     slope(by_s(k), p, square(p.width), cube(p.height))
 }
@@ -45,21 +45,21 @@ pub fn tilt_y_of(k: [i64; 10], p: Pixel) -> i64
 // The bend: along x, mixed, and along y, in 1/64 grain per pixel per pixel.
 pub fn bend_xx_of(k: [i64; 10], p: Pixel) -> i64
     requires { Sized k × PixelInCell p }
-    ensures { result ≡ bend_xxof (pixel_cell p) (halves k) (pixel_point p) }
+    ensures { result ≡ bend_xx_of (pixel_cell p) (halves k) (pixel_point p) }
 {
     curvature(by_rr(k), p, cube(p.width), length(p.height))
 }
 
 pub fn bend_xy_of(k: [i64; 10], p: Pixel) -> i64
     requires { Sized k × PixelInCell p }
-    ensures { result ≡ bend_xyof (pixel_cell p) (halves k) (pixel_point p) }
+    ensures { result ≡ bend_xy_of (pixel_cell p) (halves k) (pixel_point p) }
 {
     curvature(by_rs(k), p, square(p.width), square(p.height))
 }
 
 pub fn bend_yy_of(k: [i64; 10], p: Pixel) -> i64
     requires { Sized k × PixelInCell p }
-    ensures { result ≡ bend_yyof (pixel_cell p) (halves k) (pixel_point p) }
+    ensures { result ≡ bend_yy_of (pixel_cell p) (halves k) (pixel_point p) }
 {
     curvature(by_ss(k), p, length(p.width), cube(p.height))
 }

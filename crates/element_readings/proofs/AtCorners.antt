@@ -12,7 +12,7 @@ use Rattle.element_sibson.proofs.Fractions.{≈_sym, ≈-÷_none, ≈_complement
 use Rattle.element_sibson.proofs.Jets.{◌≈ₚ◌, jet_at_lem, ≋_trans}
 use Rattle.element_sibson.proofs.Covers.{Inside, inside, test}
 use Rattle.element_sibson.proofs.Exists.{numbers, nodes}
-use Rattle.element_readings.specs.Reading.{level_of, tilt_xof, tilt_yof}
+use Rattle.element_readings.specs.Reading.{level_of, tilt_x_of, tilt_y_of}
 use Rattle.element_readings.specs.CornerWeights.{IsAt}
 use Rattle.element_readings.specs.AtCorners.{AtCorners}
 use Rattle.element_readings.proofs.Rounded.{rounded_whole}
@@ -46,7 +46,7 @@ itself : (n : Positive) → whole (pos n.number) ÷ n ≈ whole (pos 1)
 itself n = record { crossed = solve 1 (λ n. n ⊗ # 1 ≐ # 1 ⊗ (# 1 ⊗ n)) tt (pos n.number) }
 
 pub at_corners : AtCorners
-unfolding level_of tilt_xof tilt_yof per_pixel wholes
+unfolding level_of tilt_x_of tilt_y_of per_pixel wholes
 at_corners = record {
   pixels = λ C. (
     record { across = ≈-÷_none C.W; down = ≈-÷_none C.H },

@@ -13,7 +13,7 @@ use Rattle.element_sibson.specs.Element.{CornerNumbers, sibson}
 use Rattle.element_sibson.proofs.Covers.{covering}
 use Rattle.element_cell.specs.Corners.{largest, AllWithin}
 use Rattle.element_cell.specs.Coefficients.{listed, size}
-use Rattle.element_readings.specs.Reading.{rounded, level_of, tilt_xof, tilt_yof, bend_xxof, bend_xyof, bend_yyof}
+use Rattle.element_readings.specs.Reading.{rounded, level_of, tilt_x_of, tilt_y_of, bend_xx_of, bend_xy_of, bend_yy_of}
 use Rattle.element_readings.specs.Bounds.{On, Bounds}
 use Rattle.element_readings.proofs.WithinFractions.{within-÷, within-·, at_most}
 use Rattle.element_readings.proofs.Rounded.{rounded_within}
@@ -56,7 +56,7 @@ two : (n : CornerNumbers) (k : Piece) → (sibson n k).divisor.number ≡ 2
 two n k = ap (λ d. d.number) (divisor_is n k)
 
 pub bounds : Bounds
-unfolding tilt_xof tilt_yof bend_xxof bend_xyof bend_yyof jet bend by_r by_s
+unfolding tilt_x_of tilt_y_of bend_xx_of bend_xy_of bend_yy_of jet bend by_r by_s
 bounds = record {
   pixels = λ C a b h l. record { in_cell = pixel_in_lem C a b h l; in_triangle = covering.covers (pixel C a b) };
   heights = heights;

@@ -13,10 +13,10 @@ use Rattle.integers.proofs.Bounds.{within_of_range}
 use Rattle.element_sibson.specs.Fraction.{ℚ, ◌≈◌, ◌≤ℚ◌, whole, ◌·ℚ◌}
 use Rattle.element_sibson.proofs.Fractions.{≈_sym, ≤_of-≈, ≤_trans}
 use Rattle.element_readings.proofs.RoundedFractions.{rounded-≤, whole_stays, distances}
-use Rattle.element_readings.specs.Reading.{rounded, level_of, tilt_xof, tilt_yof, bend_xxof, bend_xyof, bend_yyof, ◌withinℚ◌, HalfUnit}
+use Rattle.element_readings.specs.Reading.{rounded, level_of, tilt_x_of, tilt_y_of, bend_xx_of, bend_xy_of, bend_yy_of, ◌withinℚ◌, HalfUnit}
 
 pub half_unit : HalfUnit
-unfolding level_of tilt_xof tilt_yof bend_xxof bend_xyof bend_yyof
+unfolding level_of tilt_x_of tilt_y_of bend_xx_of bend_xy_of bend_yy_of
 half_unit = record {
   distances = distances;
   levels = λ C f P. distances _;

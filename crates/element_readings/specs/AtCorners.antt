@@ -4,7 +4,7 @@ use Rattle.element_sibson.specs.Cubic.{Cell, Point, pixel, jet, ◌≋◌}
 use Rattle.element_sibson.specs.Piece.{Piece, triangle, Corner, left_top, right_top, left_bottom, right_bottom}
 use Rattle.element_sibson.specs.Element.{Nodes, CornerNumbers, sibson, element}
 use Rattle.element_sibson.specs.Theorems.{per_pixel}
-use Rattle.element_readings.specs.Reading.{level_of, tilt_xof, tilt_yof}
+use Rattle.element_readings.specs.Reading.{level_of, tilt_x_of, tilt_y_of}
 use Rattle.element_readings.specs.CornerWeights.{IsAt}
 
 -- at a corner, from both pieces that touch it
@@ -17,5 +17,5 @@ pub record AtCorners : Type 0 where
   -- so the level is its height, and the tilt a node's slopes
   pub levels : (C : Cell) (n : CornerNumbers) (k : Piece) (c : Corner) (P : Point) → T (triangle k P) → IsAt c P → level_of C (sibson n k) P ≡ (n c).height
   pub node_levels : (C : Cell) (m : Nodes) (k : Piece) (c : Corner) (P : Point) → T (triangle k P) → IsAt c P → level_of C (element C m k) P ≡ (m c).height
-  pub node_tilts_x : (C : Cell) (m : Nodes) (k : Piece) (c : Corner) (P : Point) → T (triangle k P) → IsAt c P → tilt_xof C (element C m k) P ≡ (m c).x_slope
-  pub node_tilts_y : (C : Cell) (m : Nodes) (k : Piece) (c : Corner) (P : Point) → T (triangle k P) → IsAt c P → tilt_yof C (element C m k) P ≡ (m c).y_slope
+  pub node_tilts_x : (C : Cell) (m : Nodes) (k : Piece) (c : Corner) (P : Point) → T (triangle k P) → IsAt c P → tilt_x_of C (element C m k) P ≡ (m c).x_slope
+  pub node_tilts_y : (C : Cell) (m : Nodes) (k : Piece) (c : Corner) (P : Point) → T (triangle k P) → IsAt c P → tilt_y_of C (element C m k) P ≡ (m c).y_slope

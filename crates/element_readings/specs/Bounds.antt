@@ -5,7 +5,7 @@ use Rattle.element_sibson.specs.Cubic.{Cell, Point, pixel, value}
 use Rattle.element_sibson.specs.Piece.{Piece, InCell, triangle, piece_at}
 use Rattle.element_sibson.specs.Element.{CornerNumbers, sibson}
 use Rattle.element_cell.specs.Corners.{largest, AllWithin}
-use Rattle.element_readings.specs.Reading.{◌withinℚ◌, level_of, tilt_xof, tilt_yof, bend_xxof, bend_xyof, bend_yyof}
+use Rattle.element_readings.specs.Reading.{◌withinℚ◌, level_of, tilt_x_of, tilt_y_of, bend_xx_of, bend_xy_of, bend_yy_of}
 
 -- a point of a piece
 pub record On (k : Piece) (P : Point) : Type 0 where
@@ -22,8 +22,8 @@ pub record Bounds : Type 0 where
   -- so a level lies strictly between −2²⁰ and 2²⁰
   pub levels : (C : Cell) (n : CornerNumbers) → AllWithin largest n → (k : Piece) (P : Point) → On k P → nat_abs (level_of C (sibson n k) P) < 2 ^ 20
   -- tilts and bends are far below 2⁵³, so they are exact as 64-bit floats
-  pub tilts_x : (C : Cell) (n : CornerNumbers) → AllWithin largest n → (k : Piece) (P : Point) → InCell P → nat_abs (tilt_xof C (sibson n k) P) < 2 ^ 27
-  pub tilts_y : (C : Cell) (n : CornerNumbers) → AllWithin largest n → (k : Piece) (P : Point) → InCell P → nat_abs (tilt_yof C (sibson n k) P) < 2 ^ 27
-  pub bends_xx : (C : Cell) (n : CornerNumbers) → AllWithin largest n → (k : Piece) (P : Point) → InCell P → nat_abs (bend_xxof C (sibson n k) P) < 2 ^ 34
-  pub bends_xy : (C : Cell) (n : CornerNumbers) → AllWithin largest n → (k : Piece) (P : Point) → InCell P → nat_abs (bend_xyof C (sibson n k) P) < 2 ^ 34
-  pub bends_yy : (C : Cell) (n : CornerNumbers) → AllWithin largest n → (k : Piece) (P : Point) → InCell P → nat_abs (bend_yyof C (sibson n k) P) < 2 ^ 34
+  pub tilts_x : (C : Cell) (n : CornerNumbers) → AllWithin largest n → (k : Piece) (P : Point) → InCell P → nat_abs (tilt_x_of C (sibson n k) P) < 2 ^ 27
+  pub tilts_y : (C : Cell) (n : CornerNumbers) → AllWithin largest n → (k : Piece) (P : Point) → InCell P → nat_abs (tilt_y_of C (sibson n k) P) < 2 ^ 27
+  pub bends_xx : (C : Cell) (n : CornerNumbers) → AllWithin largest n → (k : Piece) (P : Point) → InCell P → nat_abs (bend_xx_of C (sibson n k) P) < 2 ^ 34
+  pub bends_xy : (C : Cell) (n : CornerNumbers) → AllWithin largest n → (k : Piece) (P : Point) → InCell P → nat_abs (bend_xy_of C (sibson n k) P) < 2 ^ 34
+  pub bends_yy : (C : Cell) (n : CornerNumbers) → AllWithin largest n → (k : Piece) (P : Point) → InCell P → nat_abs (bend_yy_of C (sibson n k) P) < 2 ^ 34

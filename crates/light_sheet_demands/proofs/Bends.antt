@@ -10,7 +10,7 @@ use lib.ListN.{length, get_or}
 use Rattle.element_sibson.specs.Fraction.{positive, ◌·ℚ◌}
 use Rattle.element_sibson.specs.Element.{+◌, −◌}
 use Rattle.element_sibson.specs.Cubic.{◌≋◌}
-use Rattle.element_readings.specs.Reading.{bend_xxof, bend_xyof, bend_yyof, rounded}
+use Rattle.element_readings.specs.Reading.{bend_xx_of, bend_xy_of, bend_yy_of, rounded}
 use Rattle.element_readings.proofs.Rounded.{half_unit, rounded-≈}
 use Rattle.sheet_layout.specs.UnevenMesh.{uneven_mesh}
 use Rattle.sheet_calls.specs.Refusals.{Accepted}
@@ -18,7 +18,7 @@ use Rattle.sheet_calls.specs.WellFormed.{Inside}
 use Rattle.surface_answers.specs.Answers.{outcome}
 use Rattle.surface_answers.specs.declared.Answer.{Answer}
 use Rattle.surface_of_sheet.specs.Place.{columns_at, rows_at, column_at, row_at, place}
-use Rattle.surface_of_sheet.specs.Surface.{jet_at, bend_xxat, bend_xyat, bend_yyat}
+use Rattle.surface_of_sheet.specs.Surface.{jet_at, bend_xx_at, bend_xy_at, bend_yy_at}
 use Rattle.surface_of_sheet.proofs.Cells.{x_rising, y_rising}
 use Rattle.surface_of_sheet.proofs.CellsAlong.{cell_laws}
 use Rattle.surface_of_sheet.proofs.Places.{place_laws, touch, touched}
@@ -80,7 +80,7 @@ module _ {s t : List ℕ} {x y : ℕ} {buffer buffer' : List ℤ} {r : Listed} (
     slot b l = rw c.list (bend_laws.front s x y buffer (taken c z) (3 * k + b) (omega (arith, bend_laws.size s x y)) (pos 0))
 
     entry : Entry s (entry_place s x y k) (get_or buffer' (3 * k) (pos 0)) (get_or buffer' (3 * k + 1) (pos 0)) (get_or buffer' (3 * k + 2) (pos 0))
-    unfolding bend_xxat bend_xyat bend_yyat bend_xxof bend_xyof bend_yyof
+    unfolding bend_xx_at bend_xy_at bend_yy_at bend_xx_of bend_xy_of bend_yy_of
     entry =
         let xx = rw (add-zero (3 * k)) at (slot 0 (omega arith)) ∙ bend_laws.xx s x y k h in
         let xy = slot 1 (omega arith) ∙ bend_laws.xy s x y k h in

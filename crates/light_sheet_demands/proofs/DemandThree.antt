@@ -9,7 +9,7 @@ use Rattle.element_sibson.proofs.Derivatives.{derivatives}
 use Rattle.element_sibson.proofs.Linearity.{linearity}
 use Rattle.element_sibson.proofs.SameValues.{same_values_lem}
 use Rattle.element_sibson.proofs.Unique.{uniqueness}
-use Rattle.sheet_layout.specs.Format.{height_at, slope_xat, slope_yat}
+use Rattle.sheet_layout.specs.Format.{height_at, slope_x_at, slope_y_at}
 use Rattle.surface_of_sheet.specs.Surface.{node_numbers, nodes_of, jet_at}
 use Rattle.surface_of_sheet.specs.Read.{exact}
 use Rattle.surface_of_sheet.proofs.Sets.{the_set, shared_edges}
@@ -21,7 +21,7 @@ use Rattle.light_sheet_demands.proofs.Refusals.{accepted_means}
 use Rattle.light_sheet_demands.proofs.Values.{both_are}
 
 pub demand_three : DemandThree
-unfolding Smooth SameCorners Equal Has height_at slope_xat slope_yat nodes_of jet_at exact node_numbers
+unfolding Smooth SameCorners Equal Has height_at slope_x_at slope_y_at nodes_of jet_at exact node_numbers
 demand_three = record {
   unique = uniqueness.exactly;
   fractions = fraction_laws;

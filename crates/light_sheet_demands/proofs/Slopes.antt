@@ -10,7 +10,7 @@ use Rattle.integers.proofs.Solve.{◌≐◌}
 use Rattle.integers.proofs.Deduce.{◌·◌, ◌⊨◌, deduce}
 use Rattle.element_sibson.specs.Fraction.{Positive, positive, ℚ, ◌·ℚ◌, ◌÷◌, whole}
 use Rattle.element_readings.specs.Reading.{rounded}
-use Rattle.sheet_layout.specs.Format.{columns, rows, line_x, line_y, node_at, height_at, slope_xat, slope_yat, grains_per_step}
+use Rattle.sheet_layout.specs.Format.{columns, rows, line_x, line_y, node_at, height_at, slope_x_at, slope_y_at, grains_per_step}
 use Rattle.sheet_calls.specs.Refusals.{Accepted}
 use Rattle.sheet_calls.specs.WellFormed.{Rising, WellFormed}
 use Rattle.sheet_calls.proofs.WellFormed.{accepted_laws}
@@ -124,7 +124,7 @@ module _ {s t : List ℕ} {k : ℕ} (c : FillSlopes s k 0 t) where
         ∙ ap (λ v. given (positive 64 tt) ((pos 64 *ℤ v.stored_height) ∷ [])) (left.nodes i j h l)
 
     tilt_there : Read t (line_x s i) (line_y s j) 1 r t' → outcome r ≡ given (positive 64 tt) ((node_at t i j).slope_x ∷ (node_at t i j).slope_y ∷ [])
-    unfolding answered slope_xat slope_yat
+    unfolding answered slope_x_at slope_y_at
     tilt_there d =
         outcome_is d
         ∙ rw (← left.lines.same_x i h, ← left.lines.same_y j l)

@@ -6,13 +6,13 @@ use lib.Dec.{lit≤}
 use lib.IntN.{ℤ, pos}
 use lib.ListN.{length, get_or}
 use Rattle.element_sibson.specs.Fraction.{positive, ◌·ℚ◌}
-use Rattle.element_readings.specs.Reading.{level_of, tilt_xof, tilt_yof, bend_xxof, bend_xyof, bend_yyof, rounded}
+use Rattle.element_readings.specs.Reading.{level_of, tilt_x_of, tilt_y_of, bend_xx_of, bend_xy_of, bend_yy_of, rounded}
 use Rattle.sheet_calls.specs.Refusals.{reading_refusal, Accepted}
 use Rattle.sheet_calls.specs.WellFormed.{Inside}
 use Rattle.sheet_calls.proofs.Chains.{HasPixel}
 use Rattle.surface_answers.specs.Answers.{Outcome, outcome, answered}
 use Rattle.surface_answers.specs.declared.Answer.{Answer}
-use Rattle.surface_of_sheet.specs.Surface.{level_at, tilt_xat, tilt_yat, bend_xxat, bend_xyat, bend_yyat, level, tilt_x, tilt_y, bend_xx, bend_xy, bend_yy}
+use Rattle.surface_of_sheet.specs.Surface.{level_at, tilt_x_at, tilt_y_at, bend_xx_at, bend_xy_at, bend_yy_at, level, tilt_x, tilt_y, bend_xx, bend_xy, bend_yy}
 use Rattle.surface_of_sheet.specs.Read.{numbers, read}
 use Rattle.surface_of_sheet.proofs.Answered.{read_is}
 use Rattle.surface_of_sheet.proofs.Runs.{run_laws}
@@ -35,12 +35,12 @@ module _ {s t : List ℕ} {x y : ℕ} {r : Answer} (a : Accepted s) (i : Inside 
   levels_are c = at_pixel (record { accepted = a; inside = i; kind = lit≤ tt }) c.answer c.values
 
   pub tilts_are : Read s x y 1 r t → outcome r ≡ given (positive 64 tt) (rounded (pixel_jet s x y).x_slope ∷ rounded (pixel_jet s x y).y_slope ∷ [])
-  unfolding tilt_xof tilt_yof tilt_xat tilt_yat tilt_x tilt_y answered numbers
+  unfolding tilt_x_of tilt_y_of tilt_x_at tilt_y_at tilt_x tilt_y answered numbers
   tilts_are c = at_pixel (record { accepted = a; inside = i; kind = lit≤ tt }) c.answer c.values
 
   pub bends_are : Read s x y 2 r t → outcome r ≡ given (positive 4096 tt)
       (rounded (pos 64 ·ℚ (pixel_bend s x y).xx) ∷ rounded (pos 64 ·ℚ (pixel_bend s x y).xy) ∷ rounded (pos 64 ·ℚ (pixel_bend s x y).yy) ∷ [])
-  unfolding bend_xxof bend_xyof bend_yyof bend_xxat bend_xyat bend_yyat bend_xx bend_xy bend_yy answered numbers
+  unfolding bend_xx_of bend_xy_of bend_yy_of bend_xx_at bend_xy_at bend_yy_at bend_xx bend_xy bend_yy answered numbers
   bends_are c = at_pixel (record { accepted = a; inside = i; kind = lit≤ tt }) c.answer c.values
 
 pub runs_are : {s t : List ℕ} {x y : ℕ} {row row' : List ℤ} → FillRun s x y row 0 row' t → (k : ℕ) → k < length row →

@@ -1,5 +1,5 @@
 -- The customer's three demands, sentence by sentence. They speak of whatever the calls of crates/light_sheet, and those for C, may give and leave; the records
--- of Contracts say what that is. Assumes nothing.
+-- of CallRecords say what that is. Assumes nothing.
 use Rattle.std.specs.Prelude.{ℕ, suc, ◌+◌, ◌*◌, ◌^◌, ◌≤◌, ◌<◌, ◌≡◌, ◌↔◌, ◌⊎◌, List, [], ◌∷◌, ◌++◌, map, true, false, T, ℤ, pos, neg_ℤ, ◌+ℤ◌, ◌*ℤ◌, ◌<ℤ◌, length, get_or, take, Float}
 use Rattle.std.specs.Borrow.{Bor}
 use Rattle.std.specs.Float.{fin, binary64}

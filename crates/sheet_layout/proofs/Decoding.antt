@@ -7,7 +7,7 @@ use lib.Dec.{lit<}
 use lib.IntN.{ℤ, pos, ◌*ℤ◌}
 use Rattle.sheet_words.specs.Word.{word_at, signed}
 use Rattle.sheet_words.proofs.Replaced.{stretch_word}
-use Rattle.sheet_layout.specs.Format.{Node, node, decoded, node_size, node_offset, node_bytes, node_at, height_at, slope_xat, slope_yat}
+use Rattle.sheet_layout.specs.Format.{Node, node, decoded, node_size, node_offset, node_bytes, node_at, height_at, slope_x_at, slope_y_at}
 
 module _ (s : List ℕ) (i j : ℕ) where
   -- the number k bytes from the node's start
@@ -25,8 +25,8 @@ module _ (s : List ℕ) (i j : ℕ) where
   unfolding height_at
   height_read = ap (λ (v : Node). pos 64 *ℤ v.stored_height) node_read
 
-  pub slopes_read : (slope_xat s i j ≡ number_at 2) × (slope_yat s i j ≡ number_at 4)
-  unfolding slope_xat slope_yat
+  pub slopes_read : (slope_x_at s i j ≡ number_at 2) × (slope_y_at s i j ≡ number_at 4)
+  unfolding slope_x_at slope_y_at
   slopes_read = (ap (λ (v : Node). v.slope_x) node_read, ap (λ (v : Node). v.slope_y) node_read)
 
   -- a number that the code reads from where the node starts for it

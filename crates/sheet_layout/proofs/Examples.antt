@@ -1,11 +1,11 @@
 -- The examples, computed. Assumes nothing.
 use mathlib.Core.Path.{refl}
 use Rattle.sheet_words.specs.Word.{signed, bytes_of}
-use Rattle.sheet_layout.specs.Format.{decoded, node_at, height_at, slope_xat, slope_yat}
+use Rattle.sheet_layout.specs.Format.{decoded, node_at, height_at, slope_x_at, slope_y_at}
 use Rattle.sheet_layout.specs.Examples.{evenly, Examples}
 
 pub examples : Examples
-unfolding signed bytes_of decoded node_at height_at slope_xat slope_yat evenly
+unfolding signed bytes_of decoded node_at height_at slope_x_at slope_y_at evenly
 examples = record {
   corner = refl;
   grains = refl;

@@ -1,7 +1,7 @@
 -- 01's sheet A, an oblong sheet and the largest one, byte by byte, and what their lines and nodes hold. Assumes nothing.
 use Rattle.std.specs.Prelude.{ℕ, zero, suc, ◌+◌, ◌≡◌, List, [], ◌∷◌, ◌++◌, pos, replicate}
 use Rattle.sheet_words.specs.Word.{bytes_of}
-use Rattle.sheet_layout.specs.Format.{line_x, line_y, node, node_at, height_at, slope_xat, slope_yat}
+use Rattle.sheet_layout.specs.Format.{line_x, line_y, node, node_at, height_at, slope_x_at, slope_y_at}
 
 -- a sheet of two lines each way with this header, the vertical lines at 0 and x, the horizontal ones at 0 and 2, and all numbers 0 but those of node 00
 abbrev pub square : List ℕ → ℕ → List ℕ → List ℕ
@@ -43,8 +43,8 @@ pub record Examples : Type 0 where
   -- nodes lie row by row: the last of the first row, the first of the second
   pub row_end : node_at oblong 2 0 ≡ node (pos 7) (pos 8) (pos 9)
   pub row_start : node_at oblong 0 1 ≡ node (pos 10) (pos 11) (pos 12)
-  pub along_x : slope_xat oblong 2 0 ≡ pos 8
-  pub along_y : slope_yat oblong 2 0 ≡ pos 9
+  pub along_x : slope_x_at oblong 2 0 ≡ pos 8
+  pub along_y : slope_y_at oblong 2 0 ≡ pos 9
   -- the first lines and the last of 65
   pub first_x : line_x largest 0 ≡ 0
   pub last_x : line_x largest 64 ≡ 4096

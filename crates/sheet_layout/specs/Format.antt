@@ -154,8 +154,8 @@ unfoldable pub height_at : List ℕ → ℕ → ℕ → ℤ
 height_at s i j = grains_per_step *ℤ (node_at s i j).stored_height
 
 -- the slopes there, in grains per pixel
-unfoldable pub slope_xat : List ℕ → ℕ → ℕ → ℤ
-slope_xat s i j = (node_at s i j).slope_x
+unfoldable pub slope_x_at : List ℕ → ℕ → ℕ → ℤ
+slope_x_at s i j = (node_at s i j).slope_x
 
-unfoldable pub slope_yat : List ℕ → ℕ → ℕ → ℤ
-slope_yat s i j = (node_at s i j).slope_y
+unfoldable pub slope_y_at : List ℕ → ℕ → ℕ → ℤ
+slope_y_at s i j = (node_at s i j).slope_y

@@ -9,7 +9,7 @@ pub mod theorems;
 ghost use Rattle.std.specs.Prelude.{◌≡◌, [], ◌∷◌, true, ◌+◌, ◌*◌, ◌^◌, ◌≤◌, ◌<◌, length};
 ghost use Rattle.integers.specs.Within.{◌within◌};
 ghost use Rattle.sheet_words.specs.Word.{replaced};
-ghost use Rattle.sheet_layout.specs.Format.{header_size, columns, rows, y_lines_offset, line_from, line_x, line_y, node, encoded, node_size, height_size, slope_bytes, slope_in, node_in, nodes_offset, node_offset, stated_size, height_at, slope_xat, slope_yat};
+ghost use Rattle.sheet_layout.specs.Format.{header_size, columns, rows, y_lines_offset, line_from, line_x, line_y, node, encoded, node_size, height_size, slope_bytes, slope_in, node_in, nodes_offset, node_offset, stated_size, height_at, slope_x_at, slope_y_at};
 
 use header::{HEADER_SIZE, columns, rows};
 use sheet_words::{bits_of, put_word, signed_word, word};
@@ -95,7 +95,7 @@ pub fn height(sheet: &[u8], column: usize, row: usize) -> i64
 // A node's height in grains and its slopes in grains per pixel.
 pub fn node_numbers(sheet: &[u8], column: usize, row: usize) -> [i64; 3]
     requires { (stated_size sheet.now ≤ length sheet.now) × (column < columns sheet.now) × (row < rows sheet.now) }
-    ensures { result ≡ height_at sheet.now column row ∷ slope_xat sheet.now column row ∷ slope_yat sheet.now column row ∷ [] }
+    ensures { result ≡ height_at sheet.now column row ∷ slope_x_at sheet.now column row ∷ slope_y_at sheet.now column row ∷ [] }
 {
     let at = node_offset(sheet, column, row);
     [

@@ -3,7 +3,7 @@ use mathlib.Core.Path.{refl}
 use Rattle.integers.specs.Floor.{floor_div}
 use Rattle.integers.specs.Round.{round}
 use Rattle.sheet_words.specs.Word.{signed, bits_of, bytes_of}
-use Rattle.sheet_layout.specs.Format.{marked, supported, count_in, decoded, slope_bytes, height_in, slope_in, node_in, node_at, some_node_out, height_at, slope_xat, slope_yat}
+use Rattle.sheet_layout.specs.Format.{marked, supported, count_in, decoded, slope_bytes, height_in, slope_in, node_in, node_at, some_node_out, height_at, slope_x_at, slope_y_at}
 use Rattle.sheet_layout.specs.Some.{some}
 use Rattle.sheet_layout.specs.Neighbours.{previous, next}
 use Rattle.sheet_calls.specs.Rules.{first_refusal}
@@ -13,7 +13,7 @@ use Rattle.sheet_slopes.specs.Slopes.{rise, distance, slope_along, filled_x, fil
 use Rattle.sheet_slopes.specs.Examples.{Examples}
 
 pub examples : Examples
-unfolding floor_div round signed bits_of bytes_of marked supported count_in decoded slope_bytes height_in slope_in node_in node_at some_node_out height_at slope_xat slope_yat some first_refusal other_mark other_version other_counts other_length wrong_step wrong_line wrong_lines wrong_nodes sheet_rules in_order assembled previous next rise distance slope_along filled_x filled_y filled_bytes too_stiff too_steep some_too_steep slope_rules slope_refusal with_slopes
+unfolding floor_div round signed bits_of bytes_of marked supported count_in decoded slope_bytes height_in slope_in node_in node_at some_node_out height_at slope_x_at slope_y_at some first_refusal other_mark other_version other_counts other_length wrong_step wrong_line wrong_lines wrong_nodes sheet_rules in_order assembled previous next rise distance slope_along filled_x filled_y filled_bytes too_stiff too_steep some_too_steep slope_rules slope_refusal with_slopes
 examples = record {
   first_node = refl;
   inner_node = refl;

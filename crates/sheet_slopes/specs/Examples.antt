@@ -1,6 +1,6 @@
 -- Slopes filled on small sheets, computed on the definitions. Assumes nothing.
 use Rattle.std.specs.Prelude.{ℕ, ◌≡◌, List, [], ◌∷◌, ◌++◌, pos, negsuc, set}
-use Rattle.sheet_layout.specs.Format.{slope_xat, slope_yat}
+use Rattle.sheet_layout.specs.Format.{slope_x_at, slope_y_at}
 use Rattle.sheet_layout.specs.Examples.{header, flat, sheet_a, oblong}
 use Rattle.sheet_slopes.specs.Slopes.{filled_x, filled_y, slope_refusal, with_slopes}
 
@@ -48,8 +48,8 @@ pub record Examples : Type 0 where
       (1 ∷ 0 ∷ 0x0B ∷ 0 ∷ 5 ∷ 0 ∷ []) ++ (4 ∷ 0 ∷ 1 ∷ 0 ∷ 0xFB ∷ 0xFF ∷ []) ++ (2 ∷ 0 ∷ 0xFB ∷ 0xFF ∷ 0 ∷ 0 ∷ []) ++
       (4 ∷ 0 ∷ 0xF6 ∷ 0xFF ∷ 5 ∷ 0 ∷ []) ++ (1 ∷ 0 ∷ 0xFD ∷ 0xFF ∷ 0xFB ∷ 0xFF ∷ []) ++ (2 ∷ 0 ∷ 2 ∷ 0 ∷ 0 ∷ 0 ∷ [])
   -- old slopes are written over; stiffness 0 leaves none
-  pub old_gone : slope_xat (with_slopes oblong 0) 2 1 ≡ pos 0
-  pub old_gone_too : slope_yat (with_slopes oblong 0) 2 1 ≡ pos 0
+  pub old_gone : slope_x_at (with_slopes oblong 0) 2 1 ≡ pos 0
+  pub old_gone_too : slope_y_at (with_slopes oblong 0) 2 1 ≡ pos 0
   -- 65 steps over 1 pixel: 63 × 65 is 4,095, and 64 × 65 is too steep, up and down; 65 is too stiff, whatever the slopes
   pub steepest : slope_refusal (up65 1) 63 ≡ 0
   pub steepest_down : slope_refusal (down65 1) 63 ≡ 0

@@ -3,7 +3,7 @@ use mathlib.Core.Path.{refl}
 use native.Mathlib.Omega.{arith}
 use native.Mathlib.Nat.{add-zero}
 use Rattle.element_readings.specs.Reading.{bends_of}
-use Rattle.surface_of_sheet.specs.Surface.{bend_xxat, bend_xyat, bend_yyat}
+use Rattle.surface_of_sheet.specs.Surface.{bend_xx_at, bend_xy_at, bend_yy_at}
 use Rattle.surface_bends.specs.Bends.{bends_at, tally}
 use Rattle.surface_bends.specs.BendLaws.{TouchingLaws, BendLaws}
 use Rattle.surface_bends.proofs.Listing.{every, only, ordered, once}
@@ -17,7 +17,7 @@ pub touching_laws : TouchingLaws
 touching_laws = record { every = every; only = only; ordered = ordered; once = once; most = most; least = least; alone = alone }
 
 pub bend_laws : BendLaws
-unfolding bends_at bends_of bend_xxat bend_xyat bend_yyat tally
+unfolding bends_at bends_of bend_xx_at bend_xy_at bend_yy_at tally
 bend_laws = record {
   size = size;
   few = few;

@@ -6,7 +6,7 @@ use Rattle.sheet_layout.specs.Format.{columns, rows, line_x, line_y}
 use Rattle.sheet_calls.specs.Refusals.{Accepted}
 use Rattle.sheet_calls.specs.WellFormed.{Inside}
 use Rattle.surface_of_sheet.specs.Place.{Place, point_at, place, touches}
-use Rattle.surface_of_sheet.specs.Surface.{bend_xxat, bend_xyat, bend_yyat}
+use Rattle.surface_of_sheet.specs.Surface.{bend_xx_at, bend_xy_at, bend_yy_at}
 use Rattle.surface_bends.specs.Bends.{touching_places, entry_place, bends, too_few, bends_rules, bends_refusal, tally, counted, with_bends}
 use Rattle.surface_bends.specs.declared.Listed.{Listed}
 use Rattle.surface_bends.specs.declared.Listed.TheVariants.{Pieces, Refused}
@@ -46,9 +46,9 @@ pub record BendLaws : Type 0 where
   -- three numbers a piece, so at most 24; those of entry k are the bend at its place, xx, xy, yy
   pub size : (s : List ℕ) (x y : ℕ) → length (bends s x y) ≡ 3 * length (touching_places s x y)
   pub few : (s : List ℕ) (x y : ℕ) → Accepted s → length (bends s x y) ≤ 24
-  pub xx : (s : List ℕ) (x y k : ℕ) → k < length (touching_places s x y) → get_or (bends s x y) (3 * k) (pos 0) ≡ bend_xxat s (entry_place s x y k)
-  pub xy : (s : List ℕ) (x y k : ℕ) → k < length (touching_places s x y) → get_or (bends s x y) (3 * k + 1) (pos 0) ≡ bend_xyat s (entry_place s x y k)
-  pub yy : (s : List ℕ) (x y k : ℕ) → k < length (touching_places s x y) → get_or (bends s x y) (3 * k + 2) (pos 0) ≡ bend_yyat s (entry_place s x y k)
+  pub xx : (s : List ℕ) (x y k : ℕ) → k < length (touching_places s x y) → get_or (bends s x y) (3 * k) (pos 0) ≡ bend_xx_at s (entry_place s x y k)
+  pub xy : (s : List ℕ) (x y k : ℕ) → k < length (touching_places s x y) → get_or (bends s x y) (3 * k + 1) (pos 0) ≡ bend_xy_at s (entry_place s x y k)
+  pub yy : (s : List ℕ) (x y k : ℕ) → k < length (touching_places s x y) → get_or (bends s x y) (3 * k + 2) (pos 0) ≡ bend_yy_at s (entry_place s x y k)
   -- the numbers that the call looks at, in order, and what 14 says
   pub numbers : map (λ r. r.number) bends_rules ≡ 1 ∷ 2 ∷ 3 ∷ 4 ∷ 5 ∷ 6 ∷ 7 ∷ 14 ∷ []
   pub fourteen : (places : ℕ) → (too_few places ≡ false) ↔ (24 ≤ places)

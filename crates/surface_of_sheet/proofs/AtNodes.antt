@@ -11,10 +11,10 @@ use Rattle.element_sibson.specs.Piece.{Corner, left_top, right_top, left_bottom,
 use Rattle.element_sibson.specs.Cubic.{jet, ◌≋◌}
 use Rattle.element_sibson.specs.Theorems.{wholes}
 use Rattle.element_readings.specs.CornerWeights.{IsAt}
-use Rattle.element_readings.specs.Reading.{level_of, tilt_xof, tilt_yof}
+use Rattle.element_readings.specs.Reading.{level_of, tilt_x_of, tilt_y_of}
 use Rattle.element_readings.proofs.AtCorners.{at_node_lem, at_corners}
 use Rattle.element_readings.proofs.Rounded.{rounded_whole}
-use Rattle.sheet_layout.specs.Format.{columns, rows, line_x, line_y, Node, grains_per_step, height_at, slope_xat, slope_yat}
+use Rattle.sheet_layout.specs.Format.{columns, rows, line_x, line_y, Node, grains_per_step, height_at, slope_x_at, slope_y_at}
 use Rattle.sheet_calls.specs.Refusals.{setting_refusal, Accepted}
 use Rattle.sheet_calls.specs.Calls.{with_node}
 use Rattle.sheet_calls.specs.NodeLaws.{Leaves, ReadsBack}
@@ -22,7 +22,7 @@ use Rattle.sheet_calls.proofs.Chains.{HasNode, setting_held}
 use Rattle.sheet_calls.proofs.Setting.{setting_laws}
 use Rattle.surface_answers.specs.Answers.{answered}
 use Rattle.surface_of_sheet.specs.Place.{Place, cell_at, point_at, column_at, row_at, place}
-use Rattle.surface_of_sheet.specs.Surface.{node_numbers, nodes_of, set_of, cubic_at, jet_at, level_at, tilt_xat, tilt_yat, level, tilt_x, tilt_y}
+use Rattle.surface_of_sheet.specs.Surface.{node_numbers, nodes_of, set_of, cubic_at, jet_at, level_at, tilt_x_at, tilt_y_at, level, tilt_x, tilt_y}
 use Rattle.surface_of_sheet.specs.Read.{numbers, read}
 use Rattle.surface_of_sheet.specs.Theorems.{AtNodes}
 use Rattle.surface_of_sheet.proofs.Cells.{x_rising, y_rising, width_back, height_back}
@@ -90,12 +90,12 @@ module _ (s : List ℕ) (i j : ℕ) (accepted : Accepted s) (l : i < columns s) 
   unfolding wholes node_numbers jet_at level level_at level_of
   node_level = rounded_whole node_jet.heights
 
-  node_tilt_x : tilt_x s x y ≡ slope_xat s i j
-  unfolding wholes node_numbers jet_at tilt_x tilt_xat tilt_xof
+  node_tilt_x : tilt_x s x y ≡ slope_x_at s i j
+  unfolding wholes node_numbers jet_at tilt_x tilt_x_at tilt_x_of
   node_tilt_x = rounded_whole node_jet.x_slopes
 
-  node_tilt_y : tilt_y s x y ≡ slope_yat s i j
-  unfolding wholes node_numbers jet_at tilt_y tilt_yat tilt_yof
+  node_tilt_y : tilt_y s x y ≡ slope_y_at s i j
+  unfolding wholes node_numbers jet_at tilt_y tilt_y_at tilt_y_of
   node_tilt_y = rounded_whole node_jet.y_slopes
 
   -- so a reading gives these
@@ -106,7 +106,7 @@ module _ (s : List ℕ) (i j : ℕ) (accepted : Accepted s) (l : i < columns s) 
   unfolding numbers
   read_level = node_read 0 (lit≤ tt) ∙ ap (λ z. answered 0 (z ∷ [])) node_level
 
-  read_tilt : read s x y 1 ≡ answered 1 (slope_xat s i j ∷ slope_yat s i j ∷ [])
+  read_tilt : read s x y 1 ≡ answered 1 (slope_x_at s i j ∷ slope_y_at s i j ∷ [])
   unfolding numbers
   read_tilt = node_read 1 (lit≤ tt) ∙ ap₂ (λ a b. answered 1 (a ∷ b ∷ [])) node_tilt_x node_tilt_y
 
@@ -137,7 +137,7 @@ module _ (s : List ℕ) (i j : ℕ) (v : Node) (e : setting_refusal s i j v ≡ 
       ∙ ap (λ (n : Node). answered 0 ((grains_per_step *ℤ n.stored_height) ∷ [])) back.numbers
 
   set_tilt : read t (line_x s i) (line_y s j) 1 ≡ answered 1 (v.slope_x ∷ v.slope_y ∷ [])
-  unfolding slope_xat slope_yat
+  unfolding slope_x_at slope_y_at
   set_tilt =
       rw (lines.0, lines.1) (read_tilt t i j has.accepted has.column has.row)
       ∙ ap (λ (n : Node). answered 1 (n.slope_x ∷ n.slope_y ∷ [])) back.numbers

@@ -14,7 +14,7 @@ use Rattle.element_cell.specs.Cell.{Side, side, cell}
 use Rattle.element_cell.specs.Corners.{largest, AllWithin, Measured}
 use Rattle.element_cell.proofs.Arrays.{measured_within}
 use Rattle.element_cell.proofs.Sides.{side_is}
-use Rattle.sheet_layout.specs.Format.{columns, rows, line_x, line_y, height_at, slope_xat, slope_yat}
+use Rattle.sheet_layout.specs.Format.{columns, rows, line_x, line_y, height_at, slope_x_at, slope_y_at}
 use Rattle.sheet_calls.specs.Refusals.{Accepted}
 use Rattle.sheet_calls.specs.WellFormed.{Rising, WellFormed}
 use Rattle.sheet_calls.proofs.WellFormed.{accepted_laws}
@@ -55,7 +55,7 @@ module _ (s : List ℕ) (accepted : Accepted s) where
 
   -- a node's numbers are in range
   number_in : (i j : ℕ) → i < columns s → j < rows s → JetIn (node_numbers s i j)
-  unfolding node_numbers height_at slope_xat slope_yat
+  unfolding node_numbers height_at slope_x_at slope_y_at
   number_in i j l k = let v = sound.ranges i j l k in (within-* {A = 64} (is_within (pos 64) (lit≤ tt)) v.stored_height, v.slope_x, v.slope_y)
 
   module _ (i j : ℕ) (has : HasCell s i j) where

@@ -13,7 +13,7 @@ use Rattle.sheet_calls.specs.Refusals.{Accepted}
 use Rattle.sheet_calls.specs.WellFormed.{Inside}
 use Rattle.surface_answers.specs.Answers.{FitsFloat}
 use Rattle.surface_of_sheet.specs.Place.{Place, cell_at, point_at, column_at, row_at, place}
-use Rattle.surface_of_sheet.specs.Surface.{nodes_of, set_of, level_at, tilt_xat, tilt_yat, bend_xxat, bend_xyat, bend_yyat, level, tilt_x, tilt_y, bend_xx, bend_xy, bend_yy}
+use Rattle.surface_of_sheet.specs.Surface.{nodes_of, set_of, level_at, tilt_x_at, tilt_y_at, bend_xx_at, bend_xy_at, bend_yy_at, level, tilt_x, tilt_y, bend_xx, bend_xy, bend_yy}
 use Rattle.surface_of_sheet.proofs.Cells.{numbers_within}
 use Rattle.surface_of_sheet.proofs.Places.{has_cell, there, on_piece}
 
@@ -47,14 +47,14 @@ module _ (s : List ℕ) (x y : ℕ) (accepted : Accepted s) (inside : Inside s x
   small_level = small (level s x y) level_below (lit≤ tt)
 
   pub tilts_below : (nat_abs (tilt_x s x y) < 2 ^ 27) × (nat_abs (tilt_y s x y) < 2 ^ 27)
-  unfolding element set_of tilt_x tilt_y tilt_xat tilt_yat
+  unfolding element set_of tilt_x tilt_y tilt_x_at tilt_y_at
   tilts_below = (bounds.tilts_x C n all_within p.piece (point_at s p) on.in_cell, bounds.tilts_y C n all_within p.piece (point_at s p) on.in_cell)
 
   pub small_tilts : FitsFloat (tilt_x s x y) × FitsFloat (tilt_y s x y)
   small_tilts = (small (tilt_x s x y) tilts_below.0 (lit≤ tt), small (tilt_y s x y) tilts_below.1 (lit≤ tt))
 
   pub small_bends : FitsFloat (bend_xx s x y) × FitsFloat (bend_xy s x y) × FitsFloat (bend_yy s x y)
-  unfolding element set_of bend_xx bend_xy bend_yy bend_xxat bend_xyat bend_yyat
+  unfolding element set_of bend_xx bend_xy bend_yy bend_xx_at bend_xy_at bend_yy_at
   small_bends = (
     small (bend_xx s x y) (bounds.bends_xx C n all_within p.piece (point_at s p) on.in_cell) (lit≤ tt),
     small (bend_xy s x y) (bounds.bends_xy C n all_within p.piece (point_at s p) on.in_cell) (lit≤ tt),

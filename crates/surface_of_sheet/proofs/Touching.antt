@@ -13,12 +13,12 @@ use Rattle.element_sibson.proofs.Jets.{≋_trans}
 use Rattle.element_sibson.proofs.Covers.{covering}
 use Rattle.element_sibson.proofs.Unique.{existence}
 use Rattle.element_cell.specs.Cell.{cell}
-use Rattle.element_readings.specs.Reading.{level_of, tilt_xof, tilt_yof}
+use Rattle.element_readings.specs.Reading.{level_of, tilt_x_of, tilt_y_of}
 use Rattle.element_readings.proofs.Rounded.{rounded-≈}
 use Rattle.sheet_layout.specs.Format.{columns, rows, line_x, line_y}
 use Rattle.sheet_calls.specs.Refusals.{Accepted}
 use Rattle.surface_of_sheet.specs.Place.{cell_of, Place, point_at, column_at, row_at, place, seen, touches}
-use Rattle.surface_of_sheet.specs.Surface.{nodes_of, set_of, jet_at, level_at, tilt_xat, tilt_yat, level, tilt_x, tilt_y}
+use Rattle.surface_of_sheet.specs.Surface.{nodes_of, set_of, jet_at, level_at, tilt_x_at, tilt_y_at, level, tilt_x, tilt_y}
 use Rattle.surface_of_sheet.specs.Touching.{Touches, Touching}
 use Rattle.surface_of_sheet.proofs.Along.{along_at}
 use Rattle.surface_of_sheet.proofs.Cells.{x_rising, y_rising, width_back, height_back}
@@ -107,7 +107,7 @@ jets s p x y accepted h = let t = touched s p x y h in
 -- ---- so level and tilt are
 
 pub touching : Touching
-unfolding jet_at level_at tilt_xat tilt_yat level tilt_x tilt_y level_of tilt_xof tilt_yof
+unfolding jet_at level_at tilt_x_at tilt_y_at level tilt_x tilt_y level_of tilt_x_of tilt_y_of
 touching = record {
   jets = jets;
   levels = λ s p x y a t. rounded-≈ (jets s p x y a t).heights;

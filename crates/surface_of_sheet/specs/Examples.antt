@@ -9,7 +9,7 @@ use Rattle.sheet_calls.specs.Refusals.{run_refusal}
 use Rattle.sheet_layout.specs.Examples.{header, sheet_a}
 use Rattle.surface_answers.specs.Answers.{Outcome, answered}
 use Rattle.surface_of_sheet.specs.Place.{seen, touches}
-use Rattle.surface_of_sheet.specs.Surface.{level_at, bend_xxat, bend_yyat}
+use Rattle.surface_of_sheet.specs.Surface.{level_at, bend_xx_at, bend_yy_at}
 use Rattle.surface_of_sheet.specs.Read.{read}
 use Rattle.surface_of_sheet.specs.Steep.{steep}
 use Rattle.surface_of_sheet.specs.Run.{slot_level, after_steps, begun, filled}
@@ -168,11 +168,11 @@ pub record Examples : Type 0 where
   pub refused : read sheet_a 3 0 3 ≡ record { number = 7; values = [] }
   -- on a diagonal piece 3 touches the pixel too; its bend xx is another, the one that 01 warns of
   pub on_diagonal : T (touches (steep 4 64 0) (seen (steep 4 64 0) 0 0 left 1 1) 1 1)
-  pub diagonal_bend : bend_xxat (steep 4 64 0) (seen (steep 4 64 0) 0 0 left 1 1) ≡ − 1792
+  pub diagonal_bend : bend_xx_at (steep 4 64 0) (seen (steep 4 64 0) 0 0 left 1 1) ≡ − 1792
   -- on an inner line the cell to the left, or above, touches the pixel too: the same level, another bend
   pub on_vertical : T (touches four_cells (seen four_cells 0 0 right 4 283) 4 283)
   pub vertical_level : level_at four_cells (seen four_cells 0 0 right 4 283) ≡ + 0
-  pub vertical_bend : bend_xxat four_cells (seen four_cells 0 0 right 4 283) ≡ − 11182428
+  pub vertical_bend : bend_xx_at four_cells (seen four_cells 0 0 right 4 283) ≡ − 11182428
   pub on_horizontal : T (touches four_cells (seen four_cells 0 0 bottom 2 284) 2 284)
   pub horizontal_level : level_at four_cells (seen four_cells 0 0 bottom 2 284) ≡ − 379
-  pub horizontal_bend : bend_yyat four_cells (seen four_cells 0 0 bottom 2 284) ≡ − 66525589
+  pub horizontal_bend : bend_yy_at four_cells (seen four_cells 0 0 bottom 2 284) ≡ − 66525589

@@ -4,15 +4,15 @@ use Rattle.element_sibson.specs.Fraction.{ℚ}
 use Rattle.element_sibson.specs.Cubic.{Cubic, Jet, jet}
 use Rattle.element_sibson.specs.Piece.{FourCubics, left_top, right_top, left_bottom, right_bottom}
 use Rattle.element_sibson.specs.Element.{Nodes, element}
-use Rattle.element_readings.specs.Reading.{level_of, tilt_xof, tilt_yof, bend_xxof, bend_xyof, bend_yyof}
-use Rattle.sheet_layout.specs.Format.{height_at, slope_xat, slope_yat}
+use Rattle.element_readings.specs.Reading.{level_of, tilt_x_of, tilt_y_of, bend_xx_of, bend_xy_of, bend_yy_of}
+use Rattle.sheet_layout.specs.Format.{height_at, slope_x_at, slope_y_at}
 use Rattle.surface_of_sheet.specs.Place.{cell_of, Place, cell_at, point_at, place}
 
 -- ---- the set we read from
 
 -- the node in column i and row j: its height in grains and its slopes in grains per pixel
 unfoldable pub node_numbers : List ℕ → ℕ → ℕ → Jet ℤ
-node_numbers s i j = record { height = height_at s i j; x_slope = slope_xat s i j; y_slope = slope_yat s i j }
+node_numbers s i j = record { height = height_at s i j; x_slope = slope_x_at s i j; y_slope = slope_y_at s i j }
 
 -- the nodes at the corners of the cell in column i and row j
 unfoldable pub nodes_of : List ℕ → ℕ → ℕ → Nodes
@@ -38,20 +38,20 @@ jet_at s p = jet (cell_at s p) (cubic_at s p) (point_at s p)
 unfoldable pub level_at : List ℕ → Place → ℤ
 level_at s p = level_of (cell_at s p) (cubic_at s p) (point_at s p)
 
-unfoldable pub tilt_xat : List ℕ → Place → ℤ
-tilt_xat s p = tilt_xof (cell_at s p) (cubic_at s p) (point_at s p)
+unfoldable pub tilt_x_at : List ℕ → Place → ℤ
+tilt_x_at s p = tilt_x_of (cell_at s p) (cubic_at s p) (point_at s p)
 
-unfoldable pub tilt_yat : List ℕ → Place → ℤ
-tilt_yat s p = tilt_yof (cell_at s p) (cubic_at s p) (point_at s p)
+unfoldable pub tilt_y_at : List ℕ → Place → ℤ
+tilt_y_at s p = tilt_y_of (cell_at s p) (cubic_at s p) (point_at s p)
 
-unfoldable pub bend_xxat : List ℕ → Place → ℤ
-bend_xxat s p = bend_xxof (cell_at s p) (cubic_at s p) (point_at s p)
+unfoldable pub bend_xx_at : List ℕ → Place → ℤ
+bend_xx_at s p = bend_xx_of (cell_at s p) (cubic_at s p) (point_at s p)
 
-unfoldable pub bend_xyat : List ℕ → Place → ℤ
-bend_xyat s p = bend_xyof (cell_at s p) (cubic_at s p) (point_at s p)
+unfoldable pub bend_xy_at : List ℕ → Place → ℤ
+bend_xy_at s p = bend_xy_of (cell_at s p) (cubic_at s p) (point_at s p)
 
-unfoldable pub bend_yyat : List ℕ → Place → ℤ
-bend_yyat s p = bend_yyof (cell_at s p) (cubic_at s p) (point_at s p)
+unfoldable pub bend_yy_at : List ℕ → Place → ℤ
+bend_yy_at s p = bend_yy_of (cell_at s p) (cubic_at s p) (point_at s p)
 
 -- ---- at a pixel: those at its place
 
@@ -59,16 +59,16 @@ unfoldable pub level : List ℕ → ℕ → ℕ → ℤ
 level s x y = level_at s (place s x y)
 
 unfoldable pub tilt_x : List ℕ → ℕ → ℕ → ℤ
-tilt_x s x y = tilt_xat s (place s x y)
+tilt_x s x y = tilt_x_at s (place s x y)
 
 unfoldable pub tilt_y : List ℕ → ℕ → ℕ → ℤ
-tilt_y s x y = tilt_yat s (place s x y)
+tilt_y s x y = tilt_y_at s (place s x y)
 
 unfoldable pub bend_xx : List ℕ → ℕ → ℕ → ℤ
-bend_xx s x y = bend_xxat s (place s x y)
+bend_xx s x y = bend_xx_at s (place s x y)
 
 unfoldable pub bend_xy : List ℕ → ℕ → ℕ → ℤ
-bend_xy s x y = bend_xyat s (place s x y)
+bend_xy s x y = bend_xy_at s (place s x y)
 
 unfoldable pub bend_yy : List ℕ → ℕ → ℕ → ℤ
-bend_yy s x y = bend_yyat s (place s x y)
+bend_yy s x y = bend_yy_at s (place s x y)

@@ -7,7 +7,7 @@ use Rattle.element_sibson.specs.Piece.{top, right, bottom, left, FourCubics, edg
 use Rattle.element_sibson.specs.Conditions.{Meets, Equal}
 use Rattle.element_sibson.specs.Theorems.{Has, wholes}
 use Rattle.element_readings.specs.Reading.{◌withinℚ◌}
-use Rattle.sheet_layout.specs.Format.{columns, rows, line_x, line_y, Node, grains_per_step, height_at, slope_xat, slope_yat}
+use Rattle.sheet_layout.specs.Format.{columns, rows, line_x, line_y, Node, grains_per_step, height_at, slope_x_at, slope_y_at}
 use Rattle.sheet_calls.specs.Refusals.{setting_refusal, reading_refusal, run_refusal, Accepted}
 use Rattle.sheet_calls.specs.WellFormed.{Inside}
 use Rattle.sheet_calls.specs.Calls.{with_node}
@@ -108,11 +108,11 @@ pub record HalfUnits : Type 0 where
 pub record AtNodes : Type 0 where
   -- at a node's pixel the level is its height in grains, and the tilt its slopes
   pub node_levels : (s : List ℕ) (i j : ℕ) → Accepted s → i < columns s → j < rows s → level s (line_x s i) (line_y s j) ≡ height_at s i j
-  pub node_tilts_x : (s : List ℕ) (i j : ℕ) → Accepted s → i < columns s → j < rows s → tilt_x s (line_x s i) (line_y s j) ≡ slope_xat s i j
-  pub node_tilts_y : (s : List ℕ) (i j : ℕ) → Accepted s → i < columns s → j < rows s → tilt_y s (line_x s i) (line_y s j) ≡ slope_yat s i j
+  pub node_tilts_x : (s : List ℕ) (i j : ℕ) → Accepted s → i < columns s → j < rows s → tilt_x s (line_x s i) (line_y s j) ≡ slope_x_at s i j
+  pub node_tilts_y : (s : List ℕ) (i j : ℕ) → Accepted s → i < columns s → j < rows s → tilt_y s (line_x s i) (line_y s j) ≡ slope_y_at s i j
   pub read_levels : (s : List ℕ) (i j : ℕ) → Accepted s → i < columns s → j < rows s → read s (line_x s i) (line_y s j) 0 ≡ answered 0 (height_at s i j ∷ [])
   pub read_tilts : (s : List ℕ) (i j : ℕ) → Accepted s → i < columns s → j < rows s →
-      read s (line_x s i) (line_y s j) 1 ≡ answered 1 (slope_xat s i j ∷ slope_yat s i j ∷ [])
+      read s (line_x s i) (line_y s j) 1 ≡ answered 1 (slope_x_at s i j ∷ slope_y_at s i j ∷ [])
   -- so a node that is set reads back as the new numbers: height in grains, slopes
   pub set_levels : (s : List ℕ) (i j : ℕ) (v : Node) → setting_refusal s i j v ≡ 0 →
       read (with_node s i j v) (line_x s i) (line_y s j) 0 ≡ answered 0 ((grains_per_step *ℤ v.stored_height) ∷ [])

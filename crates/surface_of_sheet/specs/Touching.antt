@@ -7,7 +7,7 @@ use Rattle.sheet_layout.specs.Format.{columns, rows, line_x, line_y}
 use Rattle.sheet_calls.specs.Refusals.{Accepted}
 use Rattle.sheet_calls.specs.WellFormed.{Rising, Inside}
 use Rattle.surface_of_sheet.specs.Place.{HasCell, cells_along, Place, cell_at, point_at, place, touches}
-use Rattle.surface_of_sheet.specs.Surface.{jet_at, level_at, tilt_xat, tilt_yat, bend_xxat, level, tilt_x, tilt_y, bend_xx}
+use Rattle.surface_of_sheet.specs.Surface.{jet_at, level_at, tilt_x_at, tilt_y_at, bend_xx_at, level, tilt_x, tilt_y, bend_xx}
 
 -- along an axis, whose n lines rise, the lowest and the highest cell that touch a position
 pub record CellLaws : Type 0 where
@@ -58,7 +58,7 @@ pub record Touching : Type 0 where
   pub jets : (s : List ℕ) (p : Place) (x y : ℕ) → Accepted s → T (touches s p x y) → jet_at s p ≋ jet_at s (place s x y)
   -- so the same level and tilt
   pub levels : (s : List ℕ) (p : Place) (x y : ℕ) → Accepted s → T (touches s p x y) → level_at s p ≡ level s x y
-  pub tilts_x : (s : List ℕ) (p : Place) (x y : ℕ) → Accepted s → T (touches s p x y) → tilt_xat s p ≡ tilt_x s x y
-  pub tilts_y : (s : List ℕ) (p : Place) (x y : ℕ) → Accepted s → T (touches s p x y) → tilt_yat s p ≡ tilt_y s x y
+  pub tilts_x : (s : List ℕ) (p : Place) (x y : ℕ) → Accepted s → T (touches s p x y) → tilt_x_at s p ≡ tilt_x s x y
+  pub tilts_y : (s : List ℕ) (p : Place) (x y : ℕ) → Accepted s → T (touches s p x y) → tilt_y_at s p ≡ tilt_y s x y
   -- the bend is not
-  pub bends : ¬ ((s : List ℕ) (p : Place) (x y : ℕ) → Accepted s → T (touches s p x y) → bend_xxat s p ≡ bend_xx s x y)
+  pub bends : ¬ ((s : List ℕ) (p : Place) (x y : ℕ) → Accepted s → T (touches s p x y) → bend_xx_at s p ≡ bend_xx s x y)

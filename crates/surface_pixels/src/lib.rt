@@ -4,7 +4,7 @@
 ghost use Rattle.std.specs.Prelude.{◌≡◌, [], ◌∷◌};
 ghost use Rattle.element_cell.specs.Cell.{pixel_cell, pixel_point, PixelInCell};
 ghost use Rattle.element_cell.specs.Coefficients.{halves, Sized};
-ghost use Rattle.element_readings.specs.Reading.{level_of, tilt_xof, tilt_yof, bend_xxof, bend_xyof, bend_yyof};
+ghost use Rattle.element_readings.specs.Reading.{level_of, tilt_x_of, tilt_y_of, bend_xx_of, bend_xy_of, bend_yy_of};
 ghost use Rattle.sheet_calls.specs.Refusals.{reading_refusal, Accepted};
 ghost use Rattle.sheet_calls.specs.WellFormed.{Inside};
 ghost use Rattle.surface_answers.specs.Answers.{outcome, answered, FitsFloat};
@@ -121,8 +121,8 @@ fn level_answer(k: [i64; 10], p: Pixel) -> Answer
 }
 
 fn tilt_answer(k: [i64; 10], p: Pixel) -> Answer
-    requires { Sized k × PixelInCell p × FitsFloat (tilt_xof (pixel_cell p) (halves k) (pixel_point p)) × FitsFloat (tilt_yof (pixel_cell p) (halves k) (pixel_point p)) }
-    ensures { outcome result ≡ answered 1 (tilt_xof (pixel_cell p) (halves k) (pixel_point p) ∷ tilt_yof (pixel_cell p) (halves k) (pixel_point p) ∷ []) }
+    requires { Sized k × PixelInCell p × FitsFloat (tilt_x_of (pixel_cell p) (halves k) (pixel_point p)) × FitsFloat (tilt_y_of (pixel_cell p) (halves k) (pixel_point p)) }
+    ensures { outcome result ≡ answered 1 (tilt_x_of (pixel_cell p) (halves k) (pixel_point p) ∷ tilt_y_of (pixel_cell p) (halves k) (pixel_point p) ∷ []) }
 {
     let reading = TiltReading::new(
         element_evaluation::tilt_x_of(k, p),
@@ -132,8 +132,8 @@ fn tilt_answer(k: [i64; 10], p: Pixel) -> Answer
 }
 
 fn bend_answer(k: [i64; 10], p: Pixel) -> Answer
-    requires { Sized k × PixelInCell p × FitsFloat (bend_xxof (pixel_cell p) (halves k) (pixel_point p)) × FitsFloat (bend_xyof (pixel_cell p) (halves k) (pixel_point p)) × FitsFloat (bend_yyof (pixel_cell p) (halves k) (pixel_point p)) }
-    ensures { outcome result ≡ answered 2 (bend_xxof (pixel_cell p) (halves k) (pixel_point p) ∷ bend_xyof (pixel_cell p) (halves k) (pixel_point p) ∷ bend_yyof (pixel_cell p) (halves k) (pixel_point p) ∷ []) }
+    requires { Sized k × PixelInCell p × FitsFloat (bend_xx_of (pixel_cell p) (halves k) (pixel_point p)) × FitsFloat (bend_xy_of (pixel_cell p) (halves k) (pixel_point p)) × FitsFloat (bend_yy_of (pixel_cell p) (halves k) (pixel_point p)) }
+    ensures { outcome result ≡ answered 2 (bend_xx_of (pixel_cell p) (halves k) (pixel_point p) ∷ bend_xy_of (pixel_cell p) (halves k) (pixel_point p) ∷ bend_yy_of (pixel_cell p) (halves k) (pixel_point p) ∷ []) }
 {
     let reading = BendReading::new(
         element_evaluation::bend_xx_of(k, p),

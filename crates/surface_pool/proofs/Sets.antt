@@ -8,7 +8,7 @@ use Rattle.integers.proofs.RingLaws.{*ℤ_distrib_l}
 use Rattle.element_sibson.specs.Piece.{Piece, Corner, left_top, right_top, left_bottom, right_bottom}
 use Rattle.element_sums.specs.Sums.{plus, together, SumOf}
 use Rattle.element_sums.proofs.Sums.{sum_laws}
-use Rattle.sheet_layout.specs.Format.{columns, rows, node_at, grains_per_step, height_at, slope_xat, slope_yat}
+use Rattle.sheet_layout.specs.Format.{columns, rows, node_at, grains_per_step, height_at, slope_x_at, slope_y_at}
 use Rattle.sheet_pool.specs.Pool.{added}
 use Rattle.sheet_pool.specs.PoolLaws.{IsPool}
 use Rattle.surface_of_sheet.specs.Place.{cell_of, HasCell}
@@ -18,7 +18,7 @@ use Rattle.surface_pool.proofs.Cells.{pool_cells}
 
 module _ {a b p : List ℕ} (pool : IsPool a b p) where
   node_sum : (i j : ℕ) → i < columns a → j < rows a → node_numbers p i j ≡ plus (node_numbers a i j) (node_numbers b i j)
-  unfolding node_numbers height_at slope_xat slope_yat added
+  unfolding node_numbers height_at slope_x_at slope_y_at added
   node_sum i j h k =
       ap (λ v. record { height = grains_per_step *ℤ v.stored_height; x_slope = v.slope_x; y_slope = v.slope_y }) (pool.nodes i j h k)
       ∙ (λ t. record {

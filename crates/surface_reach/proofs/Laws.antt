@@ -15,7 +15,7 @@ use Rattle.element_readings.specs.Reading.{level_of}
 use Rattle.element_readings.proofs.Rounded.{rounded-≈}
 use Rattle.element_reach.specs.Follows.{Follows}
 use Rattle.element_reach.proofs.Nudge.{nudge_laws}
-use Rattle.sheet_layout.specs.Format.{line_x, line_y, Node, grains_per_step, node_at, height_at, slope_xat, slope_yat}
+use Rattle.sheet_layout.specs.Format.{line_x, line_y, Node, grains_per_step, node_at, height_at, slope_x_at, slope_y_at}
 use Rattle.sheet_calls.specs.Refusals.{setting_refusal}
 use Rattle.sheet_calls.specs.WellFormed.{Inside}
 use Rattle.sheet_calls.specs.Calls.{with_node}
@@ -89,7 +89,7 @@ module _ {s t : List ℕ} {i j : ℕ} {δ : ℤ} (n : NudgedSheet s i j δ t) wh
 module _ (s : List ℕ) (i j : ℕ) (v : Node) (e : setting_refusal s i j v ≡ 0) where
   set_node : v.slope_x ≡ (node_at s i j).slope_x → v.slope_y ≡ (node_at s i j).slope_y →
       NudgedSheet s i j (grains_per_step *ℤ (v.stored_height -ℤ (node_at s i j).stored_height)) (with_node s i j v)
-  unfolding height_at slope_xat slope_yat node_numbers
+  unfolding height_at slope_x_at slope_y_at node_numbers
   set_node sx sy =
       let held = (setting_held s i j v e).0 in let leaves = setting_laws.leaves s i j v in let back = (setting_laws.reads_back s i j v e).numbers in
       record {

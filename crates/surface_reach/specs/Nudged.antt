@@ -1,7 +1,7 @@
 -- One height of a sheet nudged (02, #105): the two sheets; and where a pixel lies, outside the cells that touch the node, on their far sides, or within the
 -- node's reach. Assumes nothing.
 use Rattle.std.specs.Prelude.{ℕ, suc, ◌≤◌, ◌<◌, ◌≡◌, ◌⊎◌, List, ℤ, ◌+ℤ◌}
-use Rattle.sheet_layout.specs.Format.{columns, rows, line_x, line_y, height_at, slope_xat, slope_yat}
+use Rattle.sheet_layout.specs.Format.{columns, rows, line_x, line_y, height_at, slope_x_at, slope_y_at}
 use Rattle.sheet_calls.specs.OnSameLines.{OnSameLines}
 use Rattle.sheet_reach.specs.Reach.{TouchesNode, outermost}
 use Rattle.surface_of_sheet.specs.Place.{HasCell}
@@ -16,8 +16,8 @@ pub record NudgedSheet (s : List ℕ) (i j : ℕ) (δ : ℤ) (t : List ℕ) : Ty
   pub column : i < columns s
   pub row : j < rows s
   pub height : height_at t i j ≡ height_at s i j +ℤ δ
-  pub slope_x : slope_xat t i j ≡ slope_xat s i j
-  pub slope_y : slope_yat t i j ≡ slope_yat s i j
+  pub slope_x : slope_x_at t i j ≡ slope_x_at s i j
+  pub slope_y : slope_y_at t i j ≡ slope_y_at s i j
   pub others : (c r : ℕ) → c < columns s → r < rows s → ¬ ((c ≡ i) × (r ≡ j)) → node_numbers t c r ≡ node_numbers s c r
 
 -- ---- pixels

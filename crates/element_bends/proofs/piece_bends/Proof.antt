@@ -18,7 +18,7 @@ use Rattle.element_cell.specs.Cell.{pixel_cell, pixel_point, PixelInCell}
 use Rattle.element_cell.specs.Corners.{corners}
 use Rattle.element_cell.specs.Coefficients.{halves, Sized}
 use Rattle.element_cell.specs.Pieces.{piece_of}
-use Rattle.element_readings.specs.Reading.{bend_xxof, bend_xyof, bend_yyof, bends_of}
+use Rattle.element_readings.specs.Reading.{bend_xx_of, bend_xy_of, bend_yy_of, bends_of}
 use Rattle.element_turnings.proofs.Joined.{joined}
 use Rattle.element_turnings.proofs.Sizes.{piece_sized}
 use Rattle.element_bends.specs.PieceBends.{piece_bends}
@@ -30,7 +30,7 @@ module _ (s : tie.Start) where
   read f = f (pixel_cell s.args.p) (sibson (corners s.args.n) (piece_of s.args.piece)) (pixel_point s.args.p)
 
   abbrev three : List ℤ
-  three = read bend_xxof ∷ read bend_xyof ∷ read bend_yyof ∷ []
+  three = read bend_xx_of ∷ read bend_xy_of ∷ read bend_yy_of ∷ []
 
   -- three where the piece holds the pixel, else none
   bends_are : {b : Bool} → triangle (piece_of s.args.piece) (pixel_point s.args.p) ≡ b → piece_bends (corners s.args.n) s.args.p (piece_of s.args.piece) ≡ cond b three []
@@ -60,9 +60,9 @@ returns c = rw (bends_are c.before.before (sym c.before.holds.ensures ∙ c.if-n
 returns-2 : tie.Need-returns
 returns-2 c =
     let y = c.before in let x = y.before in let k = x.before in let s = start k.before in
-    let xx = unchanged w64 x.bend_xx_of.type_inv ∙ x.bend_xx_of.ensures ∙ same k bend_xxof in
-    let xy = unchanged w64 y.bend_xy_of.type_inv ∙ y.bend_xy_of.ensures ∙ same k bend_xyof in
-    let yy = unchanged w64 c.bend_yy_of.type_inv ∙ c.bend_yy_of.ensures ∙ same k bend_yyof in
+    let xx = unchanged w64 x.bend_xx_of.type_inv ∙ x.bend_xx_of.ensures ∙ same k bend_xx_of in
+    let xy = unchanged w64 y.bend_xy_of.type_inv ∙ y.bend_xy_of.ensures ∙ same k bend_xy_of in
+    let yy = unchanged w64 c.bend_yy_of.type_inv ∙ c.bend_yy_of.ensures ∙ same k bend_yy_of in
     rw (three-bends k.before) (refl, λ t. set (set (set s.args.list.now s.args.at (xx t)) (add-one s.args.at t) (xy t)) (add-two s.args.at t) (yy t))
 
 pub piece_bends_spec : {M : Type 1} → statement M

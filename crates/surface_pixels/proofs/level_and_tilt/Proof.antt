@@ -6,8 +6,8 @@ use mir.Syntax.{w64}
 use Rattle.integers.proofs.Operand.{unchanged}
 use Rattle.element_cell.specs.Cell.{PixelInCell}
 use Rattle.element_cell.specs.Coefficients.{Sized}
-use Rattle.element_readings.specs.Reading.{level_of, tilt_xof, tilt_yof}
-use Rattle.surface_of_sheet.specs.Surface.{level_at, tilt_xat, tilt_yat, level, tilt_x, tilt_y}
+use Rattle.element_readings.specs.Reading.{level_of, tilt_x_of, tilt_y_of}
+use Rattle.surface_of_sheet.specs.Surface.{level_at, tilt_x_at, tilt_y_at, level, tilt_x, tilt_y}
 use Rattle.surface_pixels.proofs.Cubics.{Evaluated, same, evaluated}
 use Rattle.surface_pixels.proofs.level_and_tilt.Statement.{statement}
 use Rattle.surface_pixels.proofs.level_and_tilt.Tie as tie
@@ -19,12 +19,12 @@ asked : (c : tie.After-p-1) → let r = c.before.before.locate-cubic.result in S
 asked c = let e = evaluates c in (e.sized, e.inside)
 
 returns : tie.Need-returns
-unfolding level tilt_x tilt_y level_at tilt_xat tilt_yat
+unfolding level tilt_x tilt_y level_at tilt_x_at tilt_y_at
 returns c =
     let x = c.before in let l = x.before in let e = evaluates l.before in
     let level = unchanged w64 l.level_of.type_inv ∙ l.level_of.ensures ∙ same e level_of in
-    let tilt-x = unchanged w64 x.tilt_x_of.type_inv ∙ x.tilt_x_of.ensures ∙ same e tilt_xof in
-    let tilt-y = unchanged w64 c.tilt_y_of.type_inv ∙ c.tilt_y_of.ensures ∙ same e tilt_yof in
+    let tilt-x = unchanged w64 x.tilt_x_of.type_inv ∙ x.tilt_x_of.ensures ∙ same e tilt_x_of in
+    let tilt-y = unchanged w64 c.tilt_y_of.type_inv ∙ c.tilt_y_of.ensures ∙ same e tilt_y_of in
     λ t. level t ∷ tilt-x t ∷ tilt-y t ∷ []
 
 pub level_and_tilt_spec : {M : Type 1} → statement M

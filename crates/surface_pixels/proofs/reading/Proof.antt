@@ -1,10 +1,10 @@
 -- `surface_pixels::reading` meets its contract. Assumes nothing.
 use mathlib.Core.Path.{◌∙◌, ap, ap₂, subst⁻¹}
 use mathlib.Core.List.{[], ◌∷◌}
-use Rattle.element_readings.specs.Reading.{level_of, tilt_xof, tilt_yof, bend_xxof, bend_xyof, bend_yyof}
+use Rattle.element_readings.specs.Reading.{level_of, tilt_x_of, tilt_y_of, bend_xx_of, bend_xy_of, bend_yy_of}
 use Rattle.sheet_calls.proofs.Chains.{HasPixel, reading_held}
 use Rattle.surface_answers.specs.Answers.{answered, FitsFloat}
-use Rattle.surface_of_sheet.specs.Surface.{level_at, tilt_xat, tilt_yat, bend_xxat, bend_xyat, bend_yyat, level, tilt_x, tilt_y, bend_xx, bend_xy, bend_yy}
+use Rattle.surface_of_sheet.specs.Surface.{level_at, tilt_x_at, tilt_y_at, bend_xx_at, bend_xy_at, bend_yy_at, level, tilt_x, tilt_y, bend_xx, bend_xy, bend_yy}
 use Rattle.surface_of_sheet.specs.Read.{numbers}
 use Rattle.surface_of_sheet.proofs.Sizes.{small_level, small_tilts, small_bends}
 use Rattle.surface_pixels.proofs.ByKind.{kind_bend}
@@ -29,26 +29,26 @@ returns c = let i = c.before in let e = evaluates i.before in
     rw i.if-kind-eq0.true (c.level_answer.ensures ∙ ap (λ z. answered 0 (z ∷ [])) (same e level_of))
 
 tilt-answer-requires : tie.Need-tilt_answer-requires
-unfolding tilt_x tilt_y tilt_xat tilt_yat
+unfolding tilt_x tilt_y tilt_x_at tilt_y_at
 tilt-answer-requires c κs = let d = c.before.before in let e = evaluates d in let h = held d.before.before.before.before in
     let t = small_tilts _ _ _ h.accepted h.inside in
-    (e.sized, e.inside, subst⁻¹ FitsFloat (same e tilt_xof) t.0, subst⁻¹ FitsFloat (same e tilt_yof) t.1)
+    (e.sized, e.inside, subst⁻¹ FitsFloat (same e tilt_x_of) t.0, subst⁻¹ FitsFloat (same e tilt_y_of) t.1)
 
 returns-2 : tie.Need-returns-then-kind-eq1
-unfolding tilt_x tilt_y tilt_xat tilt_yat numbers
+unfolding tilt_x tilt_y tilt_x_at tilt_y_at numbers
 returns-2 c = let i = c.before in let e = evaluates i.before.before in
-    rw i.if-kind-eq1.true (c.tilt_answer.ensures ∙ ap₂ (λ z w. answered 1 (z ∷ w ∷ [])) (same e tilt_xof) (same e tilt_yof))
+    rw i.if-kind-eq1.true (c.tilt_answer.ensures ∙ ap₂ (λ z w. answered 1 (z ∷ w ∷ [])) (same e tilt_x_of) (same e tilt_y_of))
 
 bend-answer-requires : tie.Need-bend_answer-requires
-unfolding bend_xx bend_xy bend_yy bend_xxat bend_xyat bend_yyat
+unfolding bend_xx bend_xy bend_yy bend_xx_at bend_xy_at bend_yy_at
 bend-answer-requires c κs = let d = c.before.before in let e = evaluates d in let h = held d.before.before.before.before in
     let b = small_bends _ _ _ h.accepted h.inside in
-    (e.sized, e.inside, subst⁻¹ FitsFloat (same e bend_xxof) b.0, subst⁻¹ FitsFloat (same e bend_xyof) b.1, subst⁻¹ FitsFloat (same e bend_yyof) b.2)
+    (e.sized, e.inside, subst⁻¹ FitsFloat (same e bend_xx_of) b.0, subst⁻¹ FitsFloat (same e bend_xy_of) b.1, subst⁻¹ FitsFloat (same e bend_yy_of) b.2)
 
 returns-3 : tie.Need-returns
-unfolding bend_xx bend_xy bend_yy bend_xxat bend_xyat bend_yyat
+unfolding bend_xx bend_xy bend_yy bend_xx_at bend_xy_at bend_yy_at
 returns-3 c = let i = c.before in let e = evaluates i.before.before in
-    c.bend_answer.ensures ∙ (λ t. answered 2 (same e bend_xxof t ∷ same e bend_xyof t ∷ same e bend_yyof t ∷ []))
+    c.bend_answer.ensures ∙ (λ t. answered 2 (same e bend_xx_of t ∷ same e bend_xy_of t ∷ same e bend_yy_of t ∷ []))
     ∙ kind_bend _ _ _ _ i.before.if-kind-eq0.false i.if-kind-eq1.false
 
 pub reading_spec : {M : Type 1} → statement M
