@@ -5,3 +5,4 @@ pub mod OnSameLines
 pub mod Calls
 pub mod NodeLaws
 pub mod Examples
+pub mod Refused

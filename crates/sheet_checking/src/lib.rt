@@ -1,55 +1,67 @@
 // The checks that every call makes of its sheet: which of the conditions 1 to 6 is the first to hold.
 #![tactic(auto)]
 
-ghost use Rattle.std.specs.Prelude.{◌≡◌, false, ◌+◌, ◌*◌, ◌≤◌, ◌<◌, length};
+ghost use Rattle.std.specs.Prelude.{◌≡◌, IfOk, false, ◌+◌, ◌*◌, ◌≤◌, ◌<◌, length};
 ghost use Rattle.sheet_layout.specs.Format.{header_size, columns, rows, line_from, stated_size};
 ghost use Rattle.sheet_layout.specs.Some.{some};
 ghost use Rattle.sheet_calls.specs.Refusals.{other_mark, other_version, other_counts, other_length, wrong_step, wrong_line, wrong_lines, wrong_nodes, sheet_refusal, check_refusal};
+ghost use Rattle.sheet_calls.specs.Refused.{refusal_number};
 
+use sheet_calls::accepted::Sheet;
+use sheet_calls::refusal::Refusal;
 use sheet_layout::header::{
     HEADER_SIZE, columns, count_in, marked, reserved, rows, supported, version,
 };
 use sheet_layout::ranges::some_node_out;
 use sheet_layout::{X_LINES_OFFSET, line_from, stated_size, y_lines_offset};
 
-// The number of the first condition that holds, or 0 where the sheet is accepted.
-pub fn sheet_refusal(sheet: &[u8]) -> u32
-    ensures { result ≡ sheet_refusal sheet.now }
+// Ok where the sheet is accepted, else the first condition that holds.
+pub fn sheet_refusal(sheet: &[u8]) -> Result<(), Refusal>
+    ensures { refusal_number result ≡ sheet_refusal sheet.now }
 {
     if other_mark(sheet) {
-        return 1;
+        return Err(Refusal::OtherMark);
     }
     if other_version(sheet) {
-        return 2;
+        return Err(Refusal::OtherVersion);
     }
     if other_counts(sheet) {
-        return 3;
+        return Err(Refusal::OtherCounts);
     }
     body_refusal(sheet)
 }
 
+// The sheet, where it is accepted, else the first condition that holds.
+pub fn accepted(sheet: &[u8]) -> Result<Sheet<'_>, Refusal>
+    ensures refusal { refusal_number result ≡ sheet_refusal sheet.now }
+    ensures bytes { IfOk result (λ s. s.bytes ≡ sheet.entry) }
+{
+    sheet_refusal(sheet)?;
+    Ok(Sheet { bytes: sheet })
+}
+
 // What the call `check` answers. Other calls ask `sheet_refusal`.
-pub fn check(sheet: &[u8]) -> u32
-    ensures { result ≡ check_refusal sheet.now }
+pub fn check(sheet: &[u8]) -> Result<(), Refusal>
+    ensures { refusal_number result ≡ check_refusal sheet.now }
 {
     sheet_refusal(sheet)
 }
 
 // The checks behind those of the header.
-fn body_refusal(sheet: &[u8]) -> u32
+fn body_refusal(sheet: &[u8]) -> Result<(), Refusal>
     requires { (other_mark sheet.now ≡ false) × (other_version sheet.now ≡ false) × (other_counts sheet.now ≡ false) }
-    ensures { result ≡ sheet_refusal sheet.now }
+    ensures { refusal_number result ≡ sheet_refusal sheet.now }
 {
     if other_length(sheet) {
-        return 4;
+        return Err(Refusal::OtherLength);
     }
     if wrong_lines(sheet) {
-        return 5;
+        return Err(Refusal::WrongLines);
     }
     if wrong_nodes(sheet) {
-        return 6;
+        return Err(Refusal::WrongNodes);
     }
-    0
+    Ok(())
 }
 
 fn other_mark(sheet: &[u8]) -> bool
