@@ -9,3 +9,4 @@ pub mod StaysWellFormed
 pub mod Lookup
 pub mod Setting
 pub mod Examples
+pub mod Refused
