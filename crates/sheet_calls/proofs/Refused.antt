@@ -1,5 +1,5 @@
--- No refusal has the number 0, and each number that rules give is a refusal's. Assumes nothing.
-use Rattle.std.proofs.Common.{◌≡◌, ℕ, ◌≤◌, Bool, true, false, cond, List, [], ◌∷◌, ◌++◌, ◌⊎◌, inl, inr, refl, lit≤, arith}
+-- No refusal has the number 0, no two have the same, and each number that rules give is a refusal's. Assumes nothing.
+use Rattle.std.proofs.Common.{◌≡◌, ℕ, ◌≤◌, Bool, true, false, cond, List, [], ◌∷◌, ◌++◌, ◌⊎◌, inl, inr, refl, sym, ◌∙◌, ap, slice_index_or, lit≤, arith}
 use Rattle.sheet_calls.specs.declared.refusal.Refusal.{Refusal}
 use Rattle.sheet_calls.specs.declared.refusal.Refusal.TheVariants.{OtherMark, OtherVersion, OtherCounts, OtherLength, WrongLines, WrongNodes, Outside, EmptyRun, OtherKind, NoNode, WrongNumbers, TooStiff, TooSteep, ShortList, SecondRefused, OtherLines, OtherSize, OtherZones, WrongZone}
 use Rattle.sheet_calls.specs.Rules.{Rule, first_refusal, Each}
@@ -34,6 +34,40 @@ number-not_zero e h = let p = number-positive e in omega (arith, p, h)
 -- what a call answers, m, where its first part n refuses
 pub refused_first : {m : ℕ} (n k : ℕ) → m ≡ or_else n k → (e : Refusal) → number e ≡ n → number e ≡ m
 refused_first n k q e h = refused_by_lem n k q h (number-not_zero e)
+
+-- ---- the number tells the refusal
+
+-- the refusals in the order of their numbers, behind one for 0
+in_order : List Refusal
+in_order = OtherMark ∷ OtherMark ∷ OtherVersion ∷ OtherCounts ∷ OtherLength ∷ WrongLines ∷ WrongNodes ∷ Outside ∷ EmptyRun ∷ OtherKind ∷ NoNode ∷ WrongNumbers ∷ TooStiff ∷ TooSteep ∷ ShortList ∷ SecondRefused ∷ OtherLines ∷ OtherSize ∷ OtherZones ∷ WrongZone ∷ []
+
+of_number : ℕ → Refusal
+of_number n = slice_index_or in_order n OtherMark
+
+of_number-number : (e : Refusal) → of_number (number e) ≡ e
+unfolding of_number in_order
+of_number-number OtherMark = refl
+of_number-number OtherVersion = refl
+of_number-number OtherCounts = refl
+of_number-number OtherLength = refl
+of_number-number WrongLines = refl
+of_number-number WrongNodes = refl
+of_number-number Outside = refl
+of_number-number EmptyRun = refl
+of_number-number OtherKind = refl
+of_number-number NoNode = refl
+of_number-number WrongNumbers = refl
+of_number-number TooStiff = refl
+of_number-number TooSteep = refl
+of_number-number ShortList = refl
+of_number-number SecondRefused = refl
+of_number-number OtherLines = refl
+of_number-number OtherSize = refl
+of_number-number OtherZones = refl
+of_number-number WrongZone = refl
+
+pub number-injective : (d e : Refusal) → number d ≡ number e → d ≡ e
+number-injective d e q = sym (of_number-number d) ∙ ap of_number q ∙ of_number-number e
 
 -- ---- each rule has a refusal's number
 
