@@ -16,7 +16,8 @@ use element_cell::lengths::{cube, length, square};
 // Its four coefficients, b pixels from the top edge. The row has no offset of its own, so it is not given as a pixel.
 pub fn along_row(k: Coefficients, b: usize, width: usize, height: usize) -> [i64; 4]
     requires { Side width × Side height × (b ≤ height) }
-    ensures { result ≡ along_row (cell width height) (halves k) b }
+    ensures is { result ≡ along_row (cell width height) (halves k) b }
+    ensures reaches { reach result ≤ 2 ^ 62 }
 {
     let k = k.doubled;
     [
@@ -27,7 +28,7 @@ pub fn along_row(k: Coefficients, b: usize, width: usize, height: usize) -> [i64
     ]
 }
 
-// Its value at an offset, by Horner's rule.
+// Its value at an offset, by Horner's rule. How far the cubic reaches is asked here and is no type's: where `element_levels::fill_levels` fills nothing, it takes any.
 pub fn at_offset(row: [i64; 4], offset: usize) -> i64
     requires { (reach row ≤ 2 ^ 62) × (offset ≤ 64) }
     ensures { result ≡ at_offset row offset }

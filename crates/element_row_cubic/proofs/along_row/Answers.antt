@@ -1,5 +1,5 @@
 -- `element_row_cubic::along_row` meets its contract: each of its lists is part of the coefficients, whose sizes add up to no more than 256 times the largest number. Assumes nothing.
-use Rattle.std.proofs.Common.{◌≡◌, ◌*◌, ◌^◌, List, [], ◌∷◌, ℕ, ℤ, pos, ◌*ℤ◌, get_or, refl, subst, to_z, of_z, arith, w64}
+use Rattle.std.proofs.Common.{◌≡◌, ◌*◌, ◌^◌, List, [], ◌∷◌, ℕ, ℤ, pos, ◌*ℤ◌, get_or, refl, subst, to_z, of_z, arith, w64, ◌≤◌, sym}
 use Rattle.integers.specs.Within.{◌within◌}
 use Rattle.integers.proofs.Operand.{Operand, known, returned, ◌⊠◌, asks, gives}
 use Rattle.element_sibson.specs.Cubic.{Power, one, r¹, s¹, r², rs, s², r³, r²s, rs², s³}
@@ -8,13 +8,16 @@ use Rattle.element_cell.specs.Cell.{Side, cell}
 use Rattle.element_cell.specs.Coefficients.{listed, size, halves, Sized}
 use Rattle.element_cell.proofs.Listed.{sized_within}
 use Rattle.element_cell.proofs.Sides.{length_within, square_within, cube_within, side_is}
-use Rattle.element_row_cubic.specs.Row.{down, along_row}
+use Rattle.element_row_cubic.specs.Row.{down, along_row, reach}
+use Rattle.element_row_cubic.proofs.Limits.{reach_limit}
+use Rattle.element_row_cubic.proofs.RowBounds.{row_reach}
 use Rattle.element_row_cubic.proofs.along_row.Goals as goal
 
+-- a coefficient is read as it is
 reads : {k : List ℤ} → Sized k → (p : Power) → to_z w64 (of_z w64 (get_or k (column p) (pos 0))) ≡ get_or k (column p) (pos 0)
 reads s p = (known w64 (sized_within s p) tt).reads
 
--- a product with what `down` returned, y, which is z
+-- what `down` returned, y, which is z; and its products with what `cube`, `square` and `length` returned, x
 abbrev part : {y z : ℤ} → y ≡ z → y within (2 ^ 44) → Operand
 part e h = returned w64 e (subst (λ z. z within (2 ^ 44)) e h) tt
 
@@ -62,11 +65,15 @@ row : (k : List ℤ) (b : ℕ) {w h : ℕ} {p q r s : ℤ} → Side w → Side h
 unfolding halves cell down along_row
 row k b u v e f g h = rw (e, f, g, h, side_is u, side_is v)
 
-pub returns : goal.returns
-returns c = let s = c.k.invariant in let w = c.requires.0 in
+pub returns-clause-is : goal.returns-clause-is
+returns-clause-is c = let s = c.k.invariant in let w = c.requires.0 in
     rw (← c.k.view_is)
     (row _ _ w c.requires.1
     (gives w64 (cubed w c.cube.ensures (rw (reads s one, reads s s¹, reads s s², reads s s³) at c.down.ensures.is) c.down.ensures.small) tt)
     (gives w64 (squared w c.square.ensures (rw (reads s r¹, reads s rs, reads s rs²) at c.down-2.ensures.is) c.down-2.ensures.small) tt)
     (gives w64 (once w c.length.ensures (rw (reads s r², reads s r²s) at c.down-3.ensures.is) c.down-3.ensures.small) tt)
     (part (rw (reads s r³) at c.down-4.ensures.is) c.down-4.ensures.small).reads)
+
+pub returns-clause-reaches : goal.returns-clause-reaches
+returns-clause-reaches c = let r = c.requires in
+    subst (λ z. reach z ≤ reach_limit) (sym (returns-clause-is c)) (row_reach (subst Sized c.k.view_is c.k.invariant) r.0 r.1 r.2)
