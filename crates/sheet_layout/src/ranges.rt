@@ -4,6 +4,7 @@ ghost use Rattle.sheet_words.specs.Word.{word_at, signed};
 ghost use Rattle.sheet_layout.specs.Some.{some};
 ghost use Rattle.sheet_layout.specs.Format.{node, slope_in, node_in, stated_size, some_node_out};
 
+use super::gathering::some;
 use super::{node_count, nodes_offset};
 use sheet_words::word;
 
@@ -20,13 +21,7 @@ fn some_word_out(sheet: &[u8], start: usize, count: usize) -> bool
     requires { start + 2 * count ≤ length sheet.now }
     ensures { result ≡ some (λ k. not (slope_in (signed (word_at sheet.now (start + 2 * k))))) count }
 {
-    let mut wrong = false;
-    let mut k = 0;
-    while k < count {
-        wrong = wrong | !word_in_range(word(sheet, start + 2 * k));
-        k += 1;
-    }
-    wrong
+    some(count, |k| !word_in_range(word(sheet, start + 2 * k)))
 }
 
 // Of the 16 bits of a signed number: up to 4,095, or from 65,536 − 4,095 on.
