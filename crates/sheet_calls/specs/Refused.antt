@@ -1,5 +1,5 @@
 -- The number of each refusal (01, "When the server declines", and 02), and of what a call answers: 0 where it is not refused.
-use Rattle.std.specs.Prelude.{ℕ, Result, Ok, Err}
+use Rattle.std.specs.Prelude.{ℕ, ◌≡◌, Result, Ok, Err}
 use Rattle.sheet_calls.specs.declared.refusal.Refusal.{Refusal}
 use Rattle.sheet_calls.specs.declared.refusal.Refusal.TheVariants.{OtherMark, OtherVersion, OtherCounts, OtherLength, WrongLines, WrongNodes, Outside, EmptyRun, OtherKind, NoNode, WrongNumbers, TooStiff, TooSteep, ShortList, SecondRefused, OtherLines, OtherSize, OtherZones, WrongZone}
 
@@ -27,3 +27,9 @@ number WrongZone = 19
 abbrev pub refusal_number : {A : Type 0} → Result A Refusal → ℕ
 refusal_number (Ok _) = 0
 refusal_number (Err refusal) = number refusal
+
+-- a call is refused with the number n
+pub record RefusedWith {A : Type 0} (r : Result A Refusal) (n : ℕ) : Type 0 where
+  pub refusal : Refusal
+  pub is : r ≡ Err refusal
+  pub numbered : number refusal ≡ n

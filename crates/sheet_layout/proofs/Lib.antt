@@ -1,4 +1,5 @@
 pub mod Meaning
+pub mod AxisLines
 pub mod Some
 pub mod Gathered
 pub mod NodeRange

@@ -1,5 +1,6 @@
 pub mod Some
 pub mod Format
+pub mod Axis
 pub mod SameLines
 pub mod Neighbours
 pub mod EncodingLaws

@@ -1,6 +1,7 @@
 // The bytes of a sheet: where its parts lie, what they hold, and a node's bytes read and written.
 #![tactic(auto)]
 
+pub mod axis;
 pub mod gathering;
 pub mod header;
 pub mod neighbours;

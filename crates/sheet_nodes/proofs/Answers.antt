@@ -1,34 +1,39 @@
 -- What a refusal, a lookup and a setting come to, from the answers that the code has. Assumes nothing.
-use Prim.Native.Nat.{ℕ}
-use mathlib.Core.Path.{◌≡◌, sym, ◌∙◌, ap}
-use mathlib.Core.List.{List}
-use mathlib.Core.Bool.{Bool, true, false, cond}
-use native.Mathlib.Omega.{arith}
-use lib.IntN.{ℤ}
-use mir.Syntax.{w32}
-use mir.Val.{SFits, to_z, of_z}
+use Rattle.std.proofs.Common.{◌≡◌, ℕ, ℤ, List, Bool, true, false, cond, Result, Ok, Err, is_err, true≢false, refl, sym, ◌∙◌, ap, arith, w32, to_z, of_z}
+use mir.Val.{SFits}
 use Rattle.sheet_words.specs.Word.{replaced}
 use Rattle.sheet_layout.specs.Format.{Node, node, encoded, node_size, node_offset}
+use Rattle.sheet_layout.proofs.Numbers.{back}
+use Rattle.sheet_calls.specs.declared.refusal.Refusal.{Refusal}
 use Rattle.sheet_calls.specs.Refusals.{no_node, wrong_numbers, sheet_refusal, lookup_refusal, setting_refusal}
+use Rattle.sheet_calls.specs.Refused.{number, refusal_number}
 use Rattle.sheet_calls.specs.Calls.{stretch, looked_up, with_node}
-use Rattle.sheet_calls.proofs.Rules.{refused_by_lem, passed_by}
+use Rattle.sheet_calls.proofs.Rules.{passed_by}
 use Rattle.sheet_calls.proofs.Chains.{lookup_is, setting_is}
+use Rattle.sheet_calls.proofs.Refused.{number-not_zero, refused_first}
 use Rattle.sheet_calls.proofs.Lookup.{lookup_laws}
 use Rattle.sheet_calls.proofs.Setting.{set_is, refused_is}
-use Rattle.sheet_layout.proofs.Numbers.{back}
 
 -- ---- the lookup's
 
-module _ (s : List ℕ) (i j : ℕ) {r : ℕ} (e : r ≡ sheet_refusal s) where
-  pub node_answer : r ≡ 0 → {b : Bool} → no_node s i j ≡ b → cond b 10 0 ≡ lookup_refusal s i j
-  node_answer h q = ap (λ b. cond b 10 0) (sym q) ∙ passed_by _ _ (lookup_is s i j) e h
+module _ (s : List ℕ) (i j : ℕ) (e : 0 ≡ sheet_refusal s) where
+  pub node_answer : {b : Bool} → no_node s i j ≡ b → cond b 10 0 ≡ lookup_refusal s i j
+  node_answer q = ap (λ b. cond b 10 0) (sym q) ∙ passed_by _ _ (lookup_is s i j) e refl
 
-module _ (s : List ℕ) (i j : ℕ) {r : ℕ} (e : r ≡ lookup_refusal s i j) where
-  pub looked_none : (r ≡ 0 → ⊥) → looked_up s i j ≡ stretch 0 0
-  looked_none h = lookup_laws.refused s i j (λ z. h (e ∙ z))
+err-not_zero : {A : Type 0} (r : Result A Refusal) → true ≡ is_err r → ¬ (refusal_number r ≡ 0)
+err-not_zero (Ok _) h = absurd (true≢false h)
+err-not_zero (Err e) h = number-not_zero e
 
-  pub looked_found : r ≡ 0 → looked_up s i j ≡ stretch (node_offset s i j) node_size
-  looked_found h = lookup_laws.found s i j (sym e ∙ h)
+ok-zero : {A : Type 0} (r : Result A Refusal) → false ≡ is_err r → refusal_number r ≡ 0
+ok-zero (Ok _) h = refl
+ok-zero (Err e) h = absurd (true≢false (sym h))
+
+pub looked_none : (s : List ℕ) (i j : ℕ) {A : Type 0} (r : Result A Refusal) → refusal_number r ≡ lookup_refusal s i j → true ≡ is_err r → looked_up s i j ≡ stretch 0 0
+looked_none s i j r e h = lookup_laws.refused s i j (λ z. err-not_zero r h (e ∙ z))
+
+pub looked_found : (s : List ℕ) (i j : ℕ) {A : Type 0} (r : Result A Refusal) → refusal_number r ≡ lookup_refusal s i j → false ≡ is_err r
+    → looked_up s i j ≡ stretch (node_offset s i j) node_size
+looked_found s i j r e h = lookup_laws.found s i j (sym e ∙ ok-zero r h)
 
 -- ---- the setting's: n is the answer and t the sheet that is left
 
@@ -39,20 +44,19 @@ module _ (s : List ℕ) (i j : ℕ) (v : Node) where
   unset : {n : ℕ} → n ≡ setting_refusal s i j v → (n ≡ 0 → ⊥) → Sets n s
   unset e h = (e, sym (refused_is s i j v (λ z. h (e ∙ z))))
 
-  module _ {r : ℕ} (e : r ≡ lookup_refusal s i j) where
-    pub set_refused : (r ≡ 0 → ⊥) → Sets r s
-    set_refused h = unset (refused_by_lem _ _ (setting_is s i j v) e h) h
+  pub set_refused : (r : Refusal) → number r ≡ lookup_refusal s i j → Sets (number r) s
+  set_refused r e = unset (refused_first _ _ (setting_is s i j v) r e) (number-not_zero r)
 
-    -- u is v as the code hands it on, and w the answer on its numbers
-    module _ (z : r ≡ 0) {u : Node} (f : u ≡ v) {w : Bool} (q : w ≡ wrong_numbers u) where
-      numbers_answer : {b : Bool} → w ≡ b → cond b 11 0 ≡ setting_refusal s i j v
-      numbers_answer h = ap (λ b. cond b 11 0) (sym h ∙ q ∙ ap wrong_numbers f) ∙ passed_by _ _ (setting_is s i j v) e z
+  -- u is v as the code hands it on, and w the answer on its numbers
+  module _ (e : 0 ≡ lookup_refusal s i j) {u : Node} (f : u ≡ v) {w : Bool} (q : w ≡ wrong_numbers u) where
+    numbers_answer : {b : Bool} → w ≡ b → cond b 11 0 ≡ setting_refusal s i j v
+    numbers_answer h = ap (λ b. cond b 11 0) (sym h ∙ q ∙ ap wrong_numbers f) ∙ passed_by _ _ (setting_is s i j v) e refl
 
-      pub set_wrong : w ≡ true → Sets 11 s
-      set_wrong h = unset (numbers_answer h) (λ k. omega arith)
+    pub set_wrong : w ≡ true → Sets 11 s
+    set_wrong h = unset (numbers_answer h) (λ k. omega arith)
 
-      pub set_done : w ≡ false → {at : ℕ} {t : List ℕ} → at ≡ node_offset s i j → t ≡ replaced s at (encoded u) → Sets 0 t
-      set_done h a k = let n = numbers_answer h in (n, k ∙ rw (a, f) (sym (set_is s i j v (sym n))))
+    pub set_done : w ≡ false → {at : ℕ} {t : List ℕ} → at ≡ node_offset s i j → t ≡ replaced s at (encoded u) → Sets 0 t
+    set_done h a k = let n = numbers_answer h in (n, k ∙ rw (a, f) (sym (set_is s i j v (sym n))))
 
 -- a caller's numbers as the machine hands them on: what is set is the caller's
 pub handed_on : (s : List ℕ) (i j : ℕ) {h x y : ℤ} → SFits w32 h → SFits w32 x → SFits w32 y → {n : ℕ} {t : List ℕ}

@@ -1,11 +1,13 @@
-// Nodes of a sheet: looked up, with the number of a refusal beside, and set.
+// Nodes of a sheet, looked up and set; and why such a call is refused.
 #![tactic(auto)]
 
 ghost use Rattle.std.specs.Prelude.{◌≡◌, ◌+◌, ◌≤◌, length};
 ghost use Rattle.sheet_layout.specs.Format.{header_size, node, node_size, node_offset};
 ghost use Rattle.sheet_calls.specs.Refusals.{no_node, wrong_numbers, lookup_refusal, setting_refusal};
+ghost use Rattle.sheet_calls.specs.Refused.{refusal_number};
 ghost use Rattle.sheet_calls.specs.Calls.{looked_up, stretch, Part, with_node};
 
+use sheet_calls::refusal::Refusal;
 use sheet_checking::sheet_refusal;
 use sheet_layout::header::{columns, rows};
 use sheet_layout::ranges::node_in_range;
@@ -15,27 +17,24 @@ use sheet_layout::{NODE_SIZE, node_offset, put_node};
 pub fn node(sheet: &[u8], column: u32, row: u32) -> &[u8]
     ensures { Part sheet.entry result (looked_up sheet.now column row) }
 {
-    if node_refusal(sheet, column, row) != 0 {
+    if node_refusal(sheet, column, row).is_err() {
         return &sheet[0..0];
     }
     found(sheet, column, row)
 }
 
-// The number that refuses the lookup of this node, or 0.
-pub fn node_refusal(sheet: &[u8], column: u32, row: u32) -> u32
-    ensures { result ≡ lookup_refusal sheet.now column row }
+// Why the lookup of this node is refused.
+pub fn node_refusal(sheet: &[u8], column: u32, row: u32) -> Result<(), Refusal>
+    ensures { refusal_number result ≡ lookup_refusal sheet.now column row }
 {
-    let refusal = sheet_refusal(sheet);
-    if refusal != 0 {
-        return refusal;
-    }
+    sheet_refusal(sheet)?;
     if no_node(sheet, column, row) {
-        return 10;
+        return Err(Refusal::NoNode);
     }
-    0
+    Ok(())
 }
 
-// Sets a node's numbers and answers 0; or, refused, answers the number and leaves the sheet as it was.
+// Sets a node's numbers; or, refused, leaves the sheet as it was.
 pub fn set_node(
     sheet: &mut [u8],
     column: u32,
@@ -43,20 +42,17 @@ pub fn set_node(
     height: i32,
     x_slope: i32,
     y_slope: i32,
-) -> u32
-    ensures answer { result ≡ setting_refusal sheet.old column row (node height x_slope y_slope) }
+) -> Result<(), Refusal>
+    ensures answer { refusal_number result ≡ setting_refusal sheet.old column row (node height x_slope y_slope) }
     ensures sheet { sheet.new ≡ with_node sheet.old column row (node height x_slope y_slope) }
 {
-    let refusal = node_refusal(sheet, column, row);
-    if refusal != 0 {
-        return refusal;
-    }
+    node_refusal(sheet, column, row)?;
     if wrong_numbers(height, x_slope, y_slope) {
-        return 11;
+        return Err(Refusal::WrongNumbers);
     }
     let at = offset(sheet, column, row);
     put_node(sheet, at, height, x_slope, y_slope);
-    0
+    Ok(())
 }
 
 // The bytes of a node that the sheet has.

@@ -1,13 +1,14 @@
 -- How far one node reaches (02, #105): the cells that touch it and their outermost lines; and what the program `reach` answers for all the bytes that it has
 -- read. Assumes nothing.
-use Rattle.std.specs.Prelude.{ℕ, suc, ◌-◌, ◌≤◌, ◌≡◌, ◌⊎◌, List, [], ◌∷◌, ◌++◌, Bool, cond, ltb, eqb, length, take}
+use Rattle.std.specs.Prelude.{ℕ, suc, ◌-◌, ◌≤◌, ◌≡◌, ◌⊎◌, List, [], ◌∷◌, ◌++◌, Bool, cond, ltb, eqb, length, take, Result, Ok, Err}
 use Rattle.sheet_words.specs.Word.{byte_at}
 use Rattle.sheet_layout.specs.Format.{columns, rows, line_x, line_y}
 use Rattle.sheet_layout.specs.Neighbours.{previous, next}
 use Rattle.sheet_calls.specs.Rules.{Rule, rule, first_refusal}
 use Rattle.sheet_calls.specs.Refusals.{no_node, sheet_rules}
-use Rattle.sheet_reach.specs.declared.Reach.{Reach}
-use Rattle.sheet_reach.specs.declared.Reach.TheVariants.{Lines, Refused}
+use Rattle.sheet_calls.specs.declared.refusal.Refusal.{Refusal}
+use Rattle.sheet_calls.specs.Refused.{number}
+use Rattle.sheet_reach.specs.declared.OuterLines.{OuterLines}
 
 -- ---- the cells that touch a node
 
@@ -74,9 +75,9 @@ pub record ReachAnswer : Type 0 where
   pub number : ℕ
   pub positions : List ℕ
 
-unfoldable pub told : Reach → ReachAnswer
-told (Lines left top right bottom) = record { number = 0; positions = left ∷ top ∷ right ∷ bottom ∷ [] }
-told (Refused n) = record { number = n; positions = [] }
+unfoldable pub told : Result OuterLines Refusal → ReachAnswer
+told (Ok lines) = record { number = 0; positions = lines.left ∷ lines.top ∷ lines.right ∷ lines.bottom ∷ [] }
+told (Err refusal) = record { number = number refusal; positions = [] }
 
 unfoldable pub reach_answer : List ℕ → ReachAnswer
 reach_answer input =

@@ -1,4 +1,5 @@
 -- What the call answers, and what it leaves in the buffer. Assumes nothing.
+use Rattle.std.proofs.Common.{Result, Ok, Err}
 use Prim.Native.Nat.{ℕ, ◌+◌, ◌*◌, ◌-◌, ◌≤◌, ◌<◌}
 use mathlib.Core.Path.{◌≡◌, refl, sym, ◌∙◌, ap}
 use mathlib.Core.List.{List, ◌++◌}
@@ -8,9 +9,11 @@ use borrow.Author.Tests.{eq-eqb, ne_eqb}
 use lib.IntN.{ℤ}
 use lib.ListN.{length, get_or, drop, length-append, length-drop, get_or-append}
 use lib.Seq.{get_or-append-add, get_or-drop}
-use Rattle.surface_bends.specs.Bends.{touching_places, bends, bends_refusal, Tally, tally, counted, with_bends}
-use Rattle.surface_bends.specs.declared.Listed.{Listed}
-use Rattle.surface_bends.specs.declared.Listed.TheVariants.{Pieces, Refused}
+use Rattle.sheet_calls.specs.declared.refusal.Refusal.TheVariants.{Outside, ShortList}
+use Rattle.sheet_calls.proofs.Refused.{Named, name, first_named, sheet_named}
+use Rattle.surface_bends.specs.Bends.{touching_places, bends, bends_rules, bends_refusal, Tally, tally, counted, with_bends}
+use Rattle.sheet_calls.specs.declared.refusal.Refusal.{Refusal}
+use Rattle.sheet_calls.specs.Refused.{number, RefusedWith}
 use Rattle.surface_bends.proofs.Chain.{taken}
 use Rattle.surface_bends.proofs.Counting.{least}
 use Rattle.surface_bends.proofs.Numbers.{size, few}
@@ -18,15 +21,15 @@ use Rattle.surface_bends.proofs.Numbers.{size, few}
 -- ---- the answer
 
 -- a tally of pieces, or of a refusal, tells the answer
-told_pieces : (r : Listed) (k : ℕ) → 0 < k → tally r ≡ record { number = 0; pieces = k } → r ≡ Pieces k
+told_pieces : (r : Result ℕ Refusal) (k : ℕ) → 0 < k → tally r ≡ record { number = 0; pieces = k } → r ≡ Ok k
 unfolding tally
-told_pieces (Pieces n) k h e = ap Pieces (ap (λ (t : Tally). t.pieces) e)
-told_pieces (Refused n) k h e = let none : 0 ≡ k = ap (λ (t : Tally). t.pieces) e in absurd (omega arith)
+told_pieces (Ok n) k h e = ap Ok (ap (λ (t : Tally). t.pieces) e)
+told_pieces (Err x) k h e = let none : 0 ≡ k = ap (λ (t : Tally). t.pieces) e in absurd (omega arith)
 
-told_refused : (r : Listed) (n : ℕ) → ¬ (n ≡ 0) → tally r ≡ record { number = n; pieces = 0 } → r ≡ Refused n
+told_refused : (r : Result ℕ Refusal) (n : ℕ) → ¬ (n ≡ 0) → tally r ≡ record { number = n; pieces = 0 } → RefusedWith r n
 unfolding tally
-told_refused (Pieces k) n h e = absurd (h (sym (ap (λ (t : Tally). t.number) e)))
-told_refused (Refused m) n h e = ap Refused (ap (λ (t : Tally). t.number) e)
+told_refused (Ok k) n h e = absurd (h (sym (ap (λ (t : Tally). t.number) e)))
+told_refused (Err x) n h e = record { refusal = x; is = refl; numbered = ap (λ (t : Tally). t.number) e }
 
 module _ (s : List ℕ) (x y places : ℕ) where
   pub counted_is : bends_refusal s x y places ≡ 0 → counted s x y places ≡ record { number = 0; pieces = length (touching_places s x y) }
@@ -37,11 +40,16 @@ module _ (s : List ℕ) (x y places : ℕ) where
   unfolding counted
   refused_is h = rw (ne_eqb _ 0 h) refl
 
-  pub pieces : bends_refusal s x y places ≡ 0 → (r : Listed) → tally r ≡ counted s x y places → r ≡ Pieces (length (touching_places s x y))
+  pub pieces : bends_refusal s x y places ≡ 0 → (r : Result ℕ Refusal) → tally r ≡ counted s x y places → r ≡ Ok (length (touching_places s x y))
   pieces e r t = let (a, i, _) = (taken s x y places).0 e in told_pieces r _ (least s x y a i) (t ∙ counted_is e)
 
-  pub refused : ¬ (bends_refusal s x y places ≡ 0) → (r : Listed) → tally r ≡ counted s x y places → r ≡ Refused (bends_refusal s x y places)
+  pub refused : ¬ (bends_refusal s x y places ≡ 0) → (r : Result ℕ Refusal) → tally r ≡ counted s x y places → RefusedWith r (bends_refusal s x y places)
   refused h r t = told_refused r _ h (t ∙ refused_is h)
+
+  -- a number that refuses the call is a refusal's
+  pub bends_named : ¬ (bends_refusal s x y places ≡ 0) → Named (bends_refusal s x y places)
+  unfolding bends_refusal bends_rules
+  bends_named h = first_named bends_rules _ (sheet_named _ _ (name Outside, (name ShortList, tt))) h
 
 -- ---- the buffer
 

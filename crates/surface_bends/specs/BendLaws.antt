@@ -1,5 +1,5 @@
 -- Which pieces touch a pixel, how many and in which order; what the call refuses, answers and leaves. Assumes nothing.
-use Rattle.std.specs.Prelude.{ℕ, ◌+◌, ◌*◌, ◌≤◌, ◌<◌, ◌≡◌, ◌↔◌, ◌⊎◌, List, [], ◌∷◌, map, false, T, ℤ, pos, length, get_or}
+use Rattle.std.specs.Prelude.{ℕ, ◌+◌, ◌*◌, ◌≤◌, ◌<◌, ◌≡◌, ◌↔◌, ◌⊎◌, List, [], ◌∷◌, map, false, T, ℤ, pos, length, get_or, Result, Ok, Err}
 use Rattle.element_sibson.specs.Fraction.{◌≈◌, complement}
 use Rattle.element_sibson.specs.Piece.{number}
 use Rattle.sheet_layout.specs.Format.{columns, rows, line_x, line_y}
@@ -8,8 +8,9 @@ use Rattle.sheet_calls.specs.WellFormed.{Inside}
 use Rattle.surface_of_sheet.specs.Place.{Place, point_at, place, touches}
 use Rattle.surface_of_sheet.specs.Surface.{bend_xx_at, bend_xy_at, bend_yy_at}
 use Rattle.surface_bends.specs.Bends.{touching_places, entry_place, bends, too_few, bends_rules, bends_refusal, tally, counted, with_bends}
-use Rattle.surface_bends.specs.declared.Listed.{Listed}
-use Rattle.surface_bends.specs.declared.Listed.TheVariants.{Pieces, Refused}
+use Rattle.sheet_calls.specs.declared.refusal.Refusal.{Refusal}
+use Rattle.sheet_calls.specs.Refused as refused
+use Rattle.sheet_calls.specs.Refused.{RefusedWith}
 
 -- ---- the pieces that touch a pixel
 
@@ -55,11 +56,11 @@ pub record BendLaws : Type 0 where
   -- a call that is not refused has an accepted sheet, a pixel of its mesh and 24 places or more; and every such call is taken
   pub taken : (s : List ℕ) (x y places : ℕ) → (bends_refusal s x y places ≡ 0) ↔ (Accepted s × Inside s x y × (24 ≤ places))
   -- it answers how many pieces touch the pixel; refused, the number. Which number and count each case has
-  pub of_pieces : (k : ℕ) → tally (Pieces k) ≡ record { number = 0; pieces = k }
-  pub of_refused : (n : ℕ) → tally (Refused n) ≡ record { number = n; pieces = 0 }
-  pub pieces : (s : List ℕ) (x y places : ℕ) → bends_refusal s x y places ≡ 0 → (r : Listed) → tally r ≡ counted s x y places → r ≡ Pieces (length (touching_places s x y))
-  pub refused : (s : List ℕ) (x y places : ℕ) → ¬ (bends_refusal s x y places ≡ 0) → (r : Listed) → tally r ≡ counted s x y places →
-      r ≡ Refused (bends_refusal s x y places)
+  pub of_pieces : (k : ℕ) → tally (Ok k) ≡ record { number = 0; pieces = k }
+  pub of_refused : (e : Refusal) → tally (Err e) ≡ record { number = refused.number e; pieces = 0 }
+  pub pieces : (s : List ℕ) (x y places : ℕ) → bends_refusal s x y places ≡ 0 → (r : Result ℕ Refusal) → tally r ≡ counted s x y places → r ≡ Ok (length (touching_places s x y))
+  pub refused : (s : List ℕ) (x y places : ℕ) → ¬ (bends_refusal s x y places ≡ 0) → (r : Result ℕ Refusal) → tally r ≡ counted s x y places →
+      RefusedWith r (bends_refusal s x y places)
   -- the buffer keeps its length; refused, it is as it was; else it starts with the list, and what lies behind is as it was
   pub buffer : (s : List ℕ) (x y : ℕ) (buffer : List ℤ) → length (with_bends s x y buffer) ≡ length buffer
   pub untouched : (s : List ℕ) (x y : ℕ) (buffer : List ℤ) → ¬ (bends_refusal s x y (length buffer) ≡ 0) → with_bends s x y buffer ≡ buffer

@@ -1,5 +1,5 @@
 -- Bends from each piece that touches a pixel (02, #102): the list, when the call is refused, what it answers and what it leaves. Assumes nothing.
-use Rattle.std.specs.Prelude.{ℕ, zero, suc, ◌-◌, Bool, cond, ltb, eqb, ℤ, length, get_or, drop}
+use Rattle.std.specs.Prelude.{ℕ, zero, suc, ◌-◌, Bool, cond, ltb, eqb, ℤ, length, get_or, drop, Result, Ok, Err}
 use mathlib.Core.List.{List, [], ◌∷◌, ◌++◌, flat_map}
 use Rattle.element_sibson.specs.Piece.{top, right, bottom, left}
 use Rattle.element_readings.specs.Reading.{bends_of}
@@ -8,8 +8,8 @@ use Rattle.sheet_calls.specs.Rules.{Rule, rule, first_refusal}
 use Rattle.sheet_calls.specs.Refusals.{outside, sheet_rules}
 use Rattle.surface_of_sheet.specs.Place.{Place, cell_at, point_at, seen, touches}
 use Rattle.surface_of_sheet.specs.Surface.{cubic_at}
-use Rattle.surface_bends.specs.declared.Listed.{Listed}
-use Rattle.surface_bends.specs.declared.Listed.TheVariants.{Pieces, Refused}
+use Rattle.sheet_calls.specs.declared.refusal.Refusal.{Refusal}
+use Rattle.sheet_calls.specs.Refused.{number}
 
 -- ---- the pieces that touch a pixel
 
@@ -75,9 +75,9 @@ pub record Tally : Type 0 where
   pub number : ℕ
   pub pieces : ℕ
 
-unfoldable pub tally : Listed → Tally
-tally (Pieces k) = record { number = 0; pieces = k }
-tally (Refused n) = record { number = n; pieces = 0 }
+unfoldable pub tally : Result ℕ Refusal → Tally
+tally (Ok k) = record { number = 0; pieces = k }
+tally (Err e) = record { number = number e; pieces = 0 }
 
 -- the call's
 unfoldable pub counted : List ℕ → ℕ → ℕ → ℕ → Tally

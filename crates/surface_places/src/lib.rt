@@ -1,6 +1,8 @@
 // Where a pixel lies on a sheet: outside the mesh, or in cells, at offsets in each; and the place that it is read at.
 #![tactic(auto)]
 
+pub mod spot;
+
 ghost use Rattle.std.specs.Prelude.{◌≡◌, suc, ◌+◌, ◌*◌, ◌-◌, ◌≤◌, ◌<◌, length};
 ghost use Rattle.sheet_layout.specs.Format.{columns, rows, line_from, line_x, line_y};
 ghost use Rattle.sheet_calls.specs.Refusals.{outside};
@@ -9,6 +11,7 @@ ghost use Rattle.surface_of_sheet.specs.Place.{cells_along, highest_along, place
 ghost use Rattle.surface_places.specs.Found.{Axis, Mesh, Between, CellTouches, off_axis, cells_of, found, in_cell, pixel_in, holding};
 
 use element_cell::{Piece, Pixel, piece_at};
+use sheet_calls::accepted::Sheet;
 use sheet_layout::header::{columns, rows};
 use sheet_layout::{X_LINES_OFFSET, line_from, y_lines_offset};
 
@@ -42,55 +45,72 @@ struct OnAxis {
     size: usize,
 }
 
-// Whether the pixel lies outside the mesh.
-pub fn outside(sheet: &[u8], x: u32, y: u32) -> bool
-    requires { Mesh sheet.now }
-    ensures { result ≡ outside sheet.now x y }
-{
-    let across = off_axis(sheet, X_LINES_OFFSET, columns(sheet), x);
-    let down = off_axis(sheet, y_lines_offset(sheet), rows(sheet), y);
-    across | down
+// The lines of a sheet, as far as finding a pixel asks, whatever its nodes.
+#[derive(Clone, Copy)]
+pub struct Lines<'a> {
+    pub bytes: &'a [u8],
+    ghost mesh: { Mesh bytes.now },
 }
 
-// The cells that touch a pixel of the mesh.
-pub fn find(sheet: &[u8], x: u32, y: u32) -> Found
-    requires { Mesh sheet.now × Inside sheet.now x y }
-    ensures { result ≡ found sheet.now x y }
-{
-    Found {
-        columns: cells_along(sheet, X_LINES_OFFSET, columns(sheet), x),
-        rows: cells_along(sheet, y_lines_offset(sheet), rows(sheet), y),
+impl<'a> Lines<'a> {
+    pub fn of(sheet: Sheet<'a>) -> Lines<'a>
+        ensures { result.bytes ≡ sheet.entry.bytes }
+    {
+        Lines { bytes: sheet.bytes }
     }
-}
 
-// The place that a pixel is read at: in the cell furthest to the right and below of those that touch it, on its piece with the lowest number.
-pub fn read_place(sheet: &[u8], cells: Found, x: u32, y: u32) -> Place
-    requires { Mesh sheet.now × Inside sheet.now x y × (cells ≡ found sheet.now x y) }
-    ensures { result ≡ holding sheet.now (place sheet.now x y) }
-{
-    let column = cells.columns.highest;
-    let row = cells.rows.highest;
-    let pixel = pixel_in(sheet, column, row, x, y);
-    Place {
-        column: column,
-        row: row,
-        pixel: pixel,
-        piece: piece_at(pixel),
+    // Whether the pixel lies outside the mesh.
+    pub fn outside(self, x: u32, y: u32) -> bool
+        ensures { result ≡ outside self.entry.bytes.now x y }
+    {
+        let sheet = self.bytes;
+        let across = off_axis(sheet, X_LINES_OFFSET, columns(sheet), x);
+        let down = off_axis(sheet, y_lines_offset(sheet), rows(sheet), y);
+        across | down
     }
-}
 
-// A pixel in a cell that touches it.
-pub fn pixel_in(sheet: &[u8], column: usize, row: usize, x: u32, y: u32) -> Pixel
-    requires { Mesh sheet.now × CellTouches (line_x sheet.now) (columns sheet.now) column x × CellTouches (line_y sheet.now) (rows sheet.now) row y }
-    ensures { result ≡ pixel_in sheet.now column row x y }
-{
-    let across = in_cell(sheet, X_LINES_OFFSET, column, x);
-    let down = in_cell(sheet, y_lines_offset(sheet), row, y);
-    Pixel {
-        a: across.offset,
-        b: down.offset,
-        width: across.size,
-        height: down.size,
+    // The cells that touch a pixel of the mesh.
+    pub fn find(self, x: u32, y: u32) -> Found
+        requires { Inside self.bytes.now x y }
+        ensures { result ≡ found self.entry.bytes.now x y }
+    {
+        let sheet = self.bytes;
+        Found {
+            columns: cells_along(sheet, X_LINES_OFFSET, columns(sheet), x),
+            rows: cells_along(sheet, y_lines_offset(sheet), rows(sheet), y),
+        }
+    }
+
+    // The place that a pixel is read at: in the cell furthest to the right and below of those that touch it, on its piece with the lowest number.
+    pub fn read_place(self, cells: Found, x: u32, y: u32) -> Place
+        requires { Inside self.bytes.now x y × (cells ≡ found self.bytes.now x y) }
+        ensures { result ≡ holding self.entry.bytes.now (place self.entry.bytes.now x y) }
+    {
+        let column = cells.columns.highest;
+        let row = cells.rows.highest;
+        let pixel = self.pixel_in(column, row, x, y);
+        Place {
+            column,
+            row,
+            pixel,
+            piece: piece_at(pixel),
+        }
+    }
+
+    // A pixel in a cell that touches it.
+    pub fn pixel_in(self, column: usize, row: usize, x: u32, y: u32) -> Pixel
+        requires { CellTouches (line_x self.bytes.now) (columns self.bytes.now) column x × CellTouches (line_y self.bytes.now) (rows self.bytes.now) row y }
+        ensures { result ≡ pixel_in self.entry.bytes.now column row x y }
+    {
+        let sheet = self.bytes;
+        let across = in_cell(sheet, X_LINES_OFFSET, column, x);
+        let down = in_cell(sheet, y_lines_offset(sheet), row, y);
+        Pixel {
+            a: across.offset,
+            b: down.offset,
+            width: across.size,
+            height: down.size,
+        }
     }
 }
 

@@ -1,11 +1,11 @@
 -- Zoned levels and zoned runs (02, #106): when the calls are refused, what they answer and what they leave. Assumes nothing.
-use Rattle.std.specs.Prelude.{ℕ, zero, suc, List, [], ◌∷◌, ◌++◌, cond, eqb, ℤ, length}
+use Rattle.std.specs.Prelude.{ℕ, zero, suc, List, [], ◌∷◌, ◌++◌, cond, eqb, ℤ, length, Result, Ok, Err}
 use Rattle.sheet_calls.specs.Rules.{Rule, rule, first_refusal}
 use Rattle.sheet_calls.specs.Refusals.{outside, off_mesh, empty_run, sheet_rules}
 use Rattle.sheet_zones.specs.Zones.{zones_at, limited, zone_rules}
 use Rattle.surface_of_sheet.specs.Surface.{level}
-use Rattle.surface_zones.specs.declared.Zoned.{Zoned}
-use Rattle.surface_zones.specs.declared.Zoned.TheVariants.{Level, Refused}
+use Rattle.sheet_calls.specs.declared.refusal.Refusal.{Refusal}
+use Rattle.sheet_calls.specs.Refused.{number}
 
 -- ---- zoned levels, of the sheet s and the list of zones b, in grains
 
@@ -37,9 +37,9 @@ pub record ZonedAnswer : Type 0 where
   pub number : ℕ
   pub levels : List ℤ
 
-unfoldable pub zoned_outcome : Zoned → ZonedAnswer
-zoned_outcome (Level z) = record { number = 0; levels = z ∷ [] }
-zoned_outcome (Refused n) = record { number = n; levels = [] }
+unfoldable pub zoned_outcome : Result ℤ Refusal → ZonedAnswer
+zoned_outcome (Ok z) = record { number = 0; levels = z ∷ [] }
+zoned_outcome (Err e) = record { number = number e; levels = [] }
 
 -- the call's
 unfoldable pub zoned_answer : List ℕ → List ℕ → ℕ → ℕ → ZonedAnswer
