@@ -1,5 +1,5 @@
 -- The lines before and after line k of an axis: which they are, and how they lie. Assumes nothing.
-use Prim.Native.Nat.{ℕ, zero, suc, ◌-◌, ◌≤◌, ◌<◌}
+use Prim.Native.Nat.{ℕ, zero, suc, ◌+◌, ◌-◌, ◌≤◌, ◌<◌, min}
 use mathlib.Core.Path.{◌≡◌, refl}
 use native.Mathlib.Omega.{arith}
 use lib.Dec.{ltb, ltb→lt, nltb→le}
@@ -22,6 +22,10 @@ neighbour_laws = record {
   first = refl;
   last = λ k. last_is (suc k) k (omega arith);
 }
+
+-- one more, but no more than the last
+pub one_more : (n k : ℕ) → k < n → min (k + 1) (n - 1) ≡ next n k
+one_more n k l = next_ind n k (λ m. min (k + 1) (n - 1) ≡ m) (λ h. omega arith) (λ h. omega arith)
 
 -- 0 − 1 is 0
 pub one_less : (k : ℕ) → k - 1 ≡ previous k

@@ -11,7 +11,7 @@ pub mod theorems;
 ghost use Rattle.std.specs.Prelude.{◌≡◌, [], ◌∷◌, true, ◌+◌, ◌*◌, ◌^◌, ◌≤◌, ◌<◌, length};
 ghost use Rattle.integers.specs.Within.{◌within◌};
 ghost use Rattle.sheet_words.specs.Word.{replaced};
-ghost use Rattle.sheet_layout.specs.Format.{header_size, columns, rows, y_lines_offset, line_from, line_x, line_y, node, encoded, node_size, height_size, slope_bytes, slope_in, node_in, nodes_offset, node_offset, stated_size, height_at, slope_x_at, slope_y_at};
+ghost use Rattle.sheet_layout.specs.Format.{header_size, columns, rows, y_lines_offset, line_from, node, encoded, node_size, height_size, slope_bytes, slope_in, node_in, nodes_offset, node_offset, stated_size, height_at, slope_x_at, slope_y_at};
 
 use header::{HEADER_SIZE, columns, rows};
 use sheet_words::{bits_of, put_word, signed_word, word};
@@ -36,22 +36,6 @@ pub fn line_from(sheet: &[u8], start: usize, k: usize) -> u32
     ensures { (result ≡ line_from sheet.now start k) × (result < 65536) }
 {
     word(sheet, start + 2 * k)
-}
-
-// The position of a vertical line.
-pub fn line_x(sheet: &[u8], i: usize) -> u32
-    requires { (nodes_offset sheet.now ≤ length sheet.now) × (i < columns sheet.now) }
-    ensures { result ≡ line_x sheet.now i }
-{
-    line_from(sheet, X_LINES_OFFSET, i)
-}
-
-// The position of a horizontal line.
-pub fn line_y(sheet: &[u8], j: usize) -> u32
-    requires { (nodes_offset sheet.now ≤ length sheet.now) × (j < rows sheet.now) }
-    ensures { result ≡ line_y sheet.now j }
-{
-    line_from(sheet, y_lines_offset(sheet), j)
 }
 
 // Where the nodes start.

@@ -6,12 +6,12 @@ ghost use Rattle.sheet_layout.specs.Neighbours.{previous, next};
 pub fn previous(k: usize) -> usize
     ensures { result ≡ previous k }
 {
-    if k == 0 { 0 } else { k - 1 }
+    k.saturating_sub(1)
 }
 
 pub fn next(count: usize, k: usize) -> usize
     requires { k < count }
     ensures { result ≡ next count k }
 {
-    if k + 1 < count { k + 1 } else { k }
+    (k + 1).min(count - 1)
 }

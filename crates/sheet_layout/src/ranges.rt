@@ -39,8 +39,8 @@ pub fn node_in_range(height: i32, x_slope: i32, y_slope: i32) -> bool
     in_range(height) & in_range(x_slope) & in_range(y_slope)
 }
 
-fn in_range(x: i32) -> bool
+pub fn in_range(x: i32) -> bool
     ensures { result ≡ slope_in x }
 {
-    (-4095 <= x) & (x <= 4095)
+    (-4095..=4095).contains(&x)
 }

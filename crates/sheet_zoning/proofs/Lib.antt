@@ -1,5 +1,4 @@
 mod Turns
 mod Pixels
-mod Mapped
-mod Refusal
+mod Levels
 pub mod Clamped

@@ -1,6 +1,6 @@
 -- A loop through a list of zones: a zone further on, in the order of the list. Assumes nothing.
 use Prim.Native.Nat.{ℕ, zero, suc, ◌+◌, ◌-◌, ◌≤◌, ◌<◌}
-use mathlib.Core.Path.{◌≡◌, refl, sym, ◌∙◌, ap, subst}
+use mathlib.Core.Path.{◌≡◌, refl, sym, ◌∙◌, subst}
 use mathlib.Core.Bool.{true, false}
 use mathlib.Core.List.{List}
 use native.Mathlib.Nat.{zero-add, suc-add, add-suc, add-zero, sub-zero}
@@ -8,39 +8,33 @@ use native.Mathlib.Numerals.{add-one}
 use native.Mathlib.Omega.{arith}
 use lib.IntN.{ℤ}
 use Rattle.sheet_zones.specs.Zones.{Zone, zone_at, zone_count, zones_from, zones_of, holds, holding, zones_at, limited_by, limited}
-use Rattle.sheet_zones.proofs.Conditions.{has_zone}
-use Rattle.sheet_zoning.specs.Clamps.{HasZone}
 
 module _ (b : List ℕ) where
-  -- while the loop goes on the list has zone k
-  pub in_list : {n k : ℕ} → n ≡ zone_count b → k < n → HasZone b k
-  in_list {n} {k} e h = (has_zone b k).0 (subst (λ m. k < m) e h)
-
   module _ (x y : ℕ) where
-    -- of n zones those from zone k on that hold the pixel
-    abbrev pub behind : ℕ → ℕ → List Zone
-    behind n k = holding x y (zones_from b k (n - k))
+    -- those zones from zone k on that hold the pixel
+    abbrev pub behind : ℕ → List Zone
+    behind k = holding x y (zones_from b k (zone_count b - k))
 
-    pub all_behind : behind (zone_count b) 0 ≡ zones_at b x y
+    pub all_behind : behind 0 ≡ zones_at b x y
     unfolding zones_of
-    all_behind = ap (λ n. holding x y (zones_from b 0 n)) (sub-zero (zone_count b))
+    all_behind = rw (sub-zero (zone_count b)) refl
 
-    pub none_behind : (n k : ℕ) → n ≤ k → (v : ℤ) → limited (behind n k) v ≡ v
+    pub none_behind : (k : ℕ) → zone_count b ≤ k → (v : ℤ) → limited (behind k) v ≡ v
     unfolding zones_from holding limited
-    none_behind n k h v = let none : n - k ≡ 0 = omega arith in rw none refl
+    none_behind k h v = let none : zone_count b - k ≡ 0 = omega arith in rw none refl
 
-    module _ (n k : ℕ) (more : k < n) (v : ℤ) where
-      one_less : n - k ≡ suc (n - (k + 1))
+    -- what zone k, which is z, leaves of a level v, where it holds the pixel and where it does not
+    module _ (k : ℕ) (more : k < zone_count b) {z : Zone} (at : z ≡ zone_at b k) where
+      one_less : zone_count b - k ≡ suc (zone_count b - (k + 1))
       one_less = omega arith
 
-      -- zone k holds the pixel, or does not
-      pub does_part : holds (zone_at b k) x y ≡ true → limited (behind n (k + 1)) (limited_by (zone_at b k) v) ≡ limited (behind n k) v
+      pub does_part : holds z x y ≡ true → (v w : ℤ) → w ≡ limited_by z v → limited (behind (k + 1)) w ≡ limited (behind k) v
       unfolding zones_from holding limited
-      does_part h = rw (one_less, h, add-one k) refl
+      does_part h v w e = rw (e, one_less, ← at, h, add-one k) refl
 
-      pub passes : holds (zone_at b k) x y ≡ false → limited (behind n (k + 1)) v ≡ limited (behind n k) v
+      pub passes : holds z x y ≡ false → (v w : ℤ) → w ≡ v → limited (behind (k + 1)) w ≡ limited (behind k) v
       unfolding zones_from holding
-      passes h = rw (one_less, h, add-one k) refl
+      passes h v w e = rw (e, one_less, ← at, h, add-one k) refl
 
   -- zones that hold two pixels alike
   held_alike : (x x' y : ℕ) (k n : ℕ) → ((j : ℕ) → j < n → holds (zone_at b (k + j)) x' y ≡ holds (zone_at b (k + j)) x y)

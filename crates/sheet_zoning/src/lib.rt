@@ -7,7 +7,7 @@ pub mod zone;
 ghost use Rattle.std.specs.Prelude.{◌≡◌, ◌≤◌, ◌<◌, map};
 ghost use Rattle.sheet_zoning.specs.Clamps.{clamp_at, clamped, leaves_all, Stretch};
 
-use zone::{holds, limited_by, lowered, raised, same_until};
+use zone::zone_at;
 
 // A clamp of levels: from a least to a greatest.
 #[derive(Clone, Copy)]
@@ -23,21 +23,16 @@ const LEVEL_BOUND: i32 = 1048576;
 pub fn clamp_at(zones: &[u8], x: u32, y: u32) -> Clamp
     ensures { result ≡ clamp_at zones.now x y }
 {
-    let count = list::count(zones);
     let mut least = -LEVEL_BOUND;
     let mut greatest = LEVEL_BOUND;
-    let mut k: usize = 0;
-    while k < count {
-        if holds(zones, k, x, y) {
-            least = limited_by(zones, k, least);
-            greatest = limited_by(zones, k, greatest);
+    for k in 0..list::count(zones) {
+        let zone = zone_at(zones, k);
+        if zone.holds(x, y) {
+            least = zone.limited_by(least);
+            greatest = zone.limited_by(greatest);
         }
-        k += 1;
     }
-    Clamp {
-        least: least,
-        greatest: greatest,
-    }
+    Clamp { least, greatest }
 }
 
 // How many pixels from (x, y) to the right are held by the same zones, `most` at most.
@@ -45,38 +40,35 @@ pub fn stretch(zones: &[u8], x: u32, y: u32, most: usize) -> usize
     requires { 0 < most }
     ensures { (0 < result) × (result ≤ most) × Stretch zones.now x y result }
 {
-    let count = list::count(zones);
     let mut size = most;
-    let mut k: usize = 0;
-    while k < count {
-        size = same_until(zones, k, x, y, size);
-        k += 1;
+    for k in 0..list::count(zones) {
+        size = zone_at(zones, k).same_until(x, y, size);
     }
     size
 }
 
-// A level brought between the clamp's ends.
-pub fn clamp_level(clamp: Clamp, level: i32) -> i32
-    ensures { result ≡ clamped clamp level }
-{
-    lowered(clamp.greatest, raised(clamp.least, level))
-}
+impl Clamp {
+    // A level brought between the clamp's ends. Not by `clamp`, which asks that they are in order.
+    pub fn clamp_level(self, level: i32) -> i32
+        ensures { result ≡ clamped self level }
+    {
+        level.max(self.least).min(self.greatest)
+    }
 
-// Whether the clamp leaves every level as it is.
-pub fn leaves_all(clamp: Clamp) -> bool
-    ensures { result ≡ leaves_all clamp }
-{
-    (clamp.least <= -LEVEL_BOUND) & (LEVEL_BOUND <= clamp.greatest)
-}
+    // Whether it leaves every level as it is.
+    #[tactic(auto, unfolding(crate::specs::Clamps::leaves_all))]
+    pub fn leaves_all(self) -> bool
+        ensures { result ≡ leaves_all self }
+    {
+        (self.least <= -LEVEL_BOUND) & (LEVEL_BOUND <= self.greatest)
+    }
 
-// Every level of a row brought between the clamp's ends.
-pub fn clamp_row(clamp: Clamp, row: &mut [i32])
-    ensures { row.new ≡ map (clamped clamp) row.old }
-{
-    let count = row.len();
-    let mut k: usize = 0;
-    while k < count {
-        row[k] = clamp_level(clamp, row[k]);
-        k += 1;
+    // Every level of a row brought between the clamp's ends.
+    pub fn clamp_row(self, row: &mut [i32])
+        ensures { row.new ≡ map (clamped self) row.old }
+    {
+        for level in row.iter_mut() {
+            *level = self.clamp_level(*level);
+        }
     }
 }

@@ -1,24 +1,28 @@
 // A list of zones: how many it has, and whether it is refused.
 ghost use Rattle.std.specs.Prelude.{◌≡◌};
+ghost use Rattle.sheet_calls.specs.Refused.{refusal_number};
 ghost use Rattle.sheet_zones.specs.Zones.{zone_count, zones_refusal, wrong_zones};
 
-use super::zone::{ZONE_SIZE, wrong};
+use super::zone::{ZONE_SIZE, zone_at};
+use sheet_calls::refusal::Refusal;
+use sheet_layout::gathering::some;
 
 // How many bytes the longest list has.
 const MOST_BYTES: usize = 192;
 
-// The number that refuses a list of zones, or 0.
-pub fn zones_refusal(zones: &[u8]) -> u32
-    ensures { result ≡ zones_refusal zones.now }
+// Ok where a list of zones is taken, else the first of the two conditions on it that holds.
+#[tactic(auto, unfolding(sheet_zones::specs::Zones::zones_refusal, sheet_zones::specs::Zones::zone_rules, sheet_zones::specs::Zones::other_zones_length, sheet_calls::specs::Rules::first_refusal))]
+pub fn zones_refusal(zones: &[u8]) -> Result<(), Refusal>
+    ensures { refusal_number result ≡ zones_refusal zones.now }
 {
     let size = zones.len();
     if (size % ZONE_SIZE != 0) | (MOST_BYTES < size) {
-        return 18;
+        return Err(Refusal::OtherZones);
     }
     if some_wrong(zones) {
-        return 19;
+        return Err(Refusal::WrongZone);
     }
-    0
+    Ok(())
 }
 
 // How many zones the list has.
@@ -29,15 +33,9 @@ pub fn count(zones: &[u8]) -> usize
 }
 
 // Whether some zone is wrong.
+#[tactic(auto, unfolding(sheet_zones::specs::Zones::wrong_zones))]
 fn some_wrong(zones: &[u8]) -> bool
     ensures { result ≡ wrong_zones zones.now }
 {
-    let n = count(zones);
-    let mut found = false;
-    let mut k: usize = 0;
-    while k < n {
-        found = found | wrong(zones, k);
-        k += 1;
-    }
-    found
+    some(count(zones), |k| zone_at(zones, k).wrong())
 }

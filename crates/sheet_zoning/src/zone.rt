@@ -1,97 +1,114 @@
 // One zone of a list: whether it is wrong, which pixels it holds, and what it does to a level.
-ghost use Rattle.std.specs.Prelude.{◌≡◌, ◌+◌, ◌≤◌, ◌<◌, length};
-ghost use Rattle.sheet_words.specs.Word.{word_at, signed};
-ghost use Rattle.sheet_zones.specs.Zones.{zone_at, crosses, holds, in_grains, raised, lowered, limited_by, wrong_zone};
+ghost use Rattle.std.specs.Prelude.{◌≡◌, ◌≤◌, ◌<◌};
+ghost use Rattle.integers.specs.Within.{◌within◌};
+ghost use Rattle.sheet_zones.specs.Zones.{zone_at, crosses, holds, in_grains, limited_by, wrong_zone};
 ghost use Rattle.sheet_zoning.specs.Clamps.{HasZone, Alike};
 
-use integers::least;
-use sheet_layout::ranges::word_in_range;
+use sheet_layout::ranges::in_range;
 use sheet_words::{signed_word, word};
+use std::marker::Model;
 
 // How many bytes a zone has.
 pub const ZONE_SIZE: usize = 12;
 
-// Whether zone k is wrong: left above right, top above bottom, floor above ceiling, or a limit out of range.
-pub fn wrong(zones: &[u8], k: usize) -> bool
+// A zone as it is read: its pixels from left to right and from top to bottom, all four inclusive, and its limits in steps.
+#[derive(Clone, Copy)]
+pub struct Zone {
+    left: u32,
+    top: u32,
+    right: u32,
+    bottom: u32,
+    floor: i32,
+    ceiling: i32,
+}
+
+impl Model for Zone {
+    ghost use Rattle.integers.specs.Within.{◌within◌};
+    ghost use Rattle.sheet_zones.specs.Zones as listed;
+
+    ghost Value = { listed.Zone };
+
+    ghost view = { λ z. record { left = z.left; top = z.top; right = z.right; bottom = z.bottom; floor = z.floor; ceiling = z.ceiling } };
+
+    ghost invariant = { λ z. (z.floor within 32768) × (z.ceiling within 32768) };
+
+    ghost inverse = { λ z. record { left = z.left; top = z.top; right = z.right; bottom = z.bottom; floor = z.floor; ceiling = z.ceiling } };
+}
+
+// Zone k of the list.
+#[tactic(auto, unfolding(sheet_zones::specs::Zones::zone_in))]
+pub fn zone_at(zones: &[u8], k: usize) -> Zone
     requires { HasZone zones.now k }
-    ensures { result ≡ wrong_zone (zone_at zones.now k) }
+    ensures { result ≡ zone_at zones.now k }
 {
     let at = ZONE_SIZE * k;
-    let across = word(zones, at + 4) < word(zones, at);
-    let down = word(zones, at + 6) < word(zones, at + 2);
-    let crossed = signed_word(zones, at + 10) < signed_word(zones, at + 8);
-    let floor_out = !word_in_range(word(zones, at + 8));
-    let ceiling_out = !word_in_range(word(zones, at + 10));
-    across | down | crossed | floor_out | ceiling_out
-}
-
-// Whether zone k holds pixel (x, y): all four sides are its own.
-pub fn holds(zones: &[u8], k: usize, x: u32, y: u32) -> bool
-    requires { HasZone zones.now k }
-    ensures { result ≡ holds (zone_at zones.now k) x y }
-{
-    let at = ZONE_SIZE * k;
-    (word(zones, at) <= x) & (x <= word(zones, at + 4)) & crosses(zones, k, y)
-}
-
-// Whether zone k has pixels in row y.
-fn crosses(zones: &[u8], k: usize, y: u32) -> bool
-    requires { HasZone zones.now k }
-    ensures { result ≡ crosses (zone_at zones.now k) y }
-{
-    let at = ZONE_SIZE * k;
-    (word(zones, at + 2) <= y) & (y <= word(zones, at + 6))
-}
-
-// What zone k does to a level: raised to the floor if below, then lowered to the ceiling if above.
-pub fn limited_by(zones: &[u8], k: usize, level: i32) -> i32
-    requires { HasZone zones.now k }
-    ensures { result ≡ limited_by (zone_at zones.now k) level }
-{
-    let at = ZONE_SIZE * k;
-    let floor = limit(zones, at + 8);
-    let ceiling = limit(zones, at + 10);
-    lowered(ceiling, raised(floor, level))
-}
-
-// A level raised to the limit if below.
-pub fn raised(limit: i32, level: i32) -> i32
-    ensures { result ≡ raised limit level }
-{
-    if level < limit { limit } else { level }
-}
-
-// A level lowered to the limit if above.
-pub fn lowered(limit: i32, level: i32) -> i32
-    ensures { result ≡ lowered limit level }
-{
-    if limit < level { limit } else { level }
-}
-
-// The limit at an index, in grains: 64 a step.
-fn limit(zones: &[u8], at: usize) -> i32
-    requires { at + 1 < length zones.now }
-    ensures { result ≡ in_grains (signed (word_at zones.now at)) }
-{
-    (64 * signed_word(zones, at)) as i32
-}
-
-// How many of the `most` pixels from (x, y) to the right are alike: zone k holds all of them, or none.
-pub fn same_until(zones: &[u8], k: usize, x: u32, y: u32, most: usize) -> usize
-    requires { HasZone zones.now k × (0 < most) }
-    ensures { (0 < result) × (result ≤ most) × Alike (zone_at zones.now k) x y result }
-{
-    if !crosses(zones, k, y) {
-        return most;
+    Zone {
+        left: word(zones, at),
+        top: word(zones, at + 2),
+        right: word(zones, at + 4),
+        bottom: word(zones, at + 6),
+        floor: signed_word(zones, at + 8) as i32,
+        ceiling: signed_word(zones, at + 10) as i32,
     }
-    let at = ZONE_SIZE * k;
-    let left = word(zones, at);
-    let right = word(zones, at + 4);
-    if x < left {
-        return least(most, (left - x) as usize);
+}
+
+impl Zone {
+    // Whether it is wrong: left above right, top above bottom, floor above ceiling, or a limit out of range.
+    #[tactic(auto, unfolding(sheet_zones::specs::Zones::wrong_zone, sheet_zones::specs::Zones::limit_in, sheet_layout::specs::Format::slope_in))]
+    pub fn wrong(self) -> bool
+        ensures { result ≡ wrong_zone self }
+    {
+        let across = self.right < self.left;
+        let down = self.bottom < self.top;
+        let crossed = self.ceiling < self.floor;
+        across | down | crossed | !in_range(self.floor) | !in_range(self.ceiling)
     }
-    if x <= right {
-        return least(most, (right - x) as usize + 1);
+
+    // Whether it holds pixel (x, y): all four sides are its own.
+    #[tactic(auto, unfolding(sheet_zones::specs::Zones::holds))]
+    pub fn holds(self, x: u32, y: u32) -> bool
+        ensures { result ≡ holds self x y }
+    {
+        (self.left <= x) & (x <= self.right) & self.crosses(y)
     }
-    most
+
+    // Whether it has pixels in row y.
+    #[tactic(auto, unfolding(sheet_zones::specs::Zones::crosses))]
+    fn crosses(self, y: u32) -> bool
+        ensures { result ≡ crosses self y }
+    {
+        (self.top <= y) & (y <= self.bottom)
+    }
+
+    // What it does to a level: raised to the floor if below, then lowered to the ceiling if above.
+    pub fn limited_by(self, level: i32) -> i32
+        ensures { result ≡ limited_by self level }
+    {
+        level.max(limit(self.floor)).min(limit(self.ceiling))
+    }
+
+    // How many of the `most` pixels from (x, y) to the right are alike: it holds all of them, or none.
+    pub fn same_until(self, x: u32, y: u32, most: usize) -> usize
+        requires { 0 < most }
+        ensures { (0 < result) × (result ≤ most) × Alike self x y result }
+    {
+        if !self.crosses(y) {
+            return most;
+        }
+        if x < self.left {
+            return most.min((self.left - x) as usize);
+        }
+        if x <= self.right {
+            return most.min((self.right - x) as usize + 1);
+        }
+        most
+    }
+}
+
+// A limit in grains: 64 a step.
+fn limit(steps: i32) -> i32
+    requires { steps within 32768 }
+    ensures { result ≡ in_grains steps }
+{
+    64 * steps
 }

@@ -6,9 +6,11 @@ use mathlib.Core.List.{List}
 use native.Mathlib.Omega.{arith}
 use lib.Dec.{ltb}
 use lib.ListN.{length}
-use Rattle.sheet_layout.specs.Format.{header_size, columns, rows, line_from, x_lines_offset, y_lines_offset, line_x, line_y}
+use Rattle.sheet_layout.specs.Format.{header_size, columns, rows, line_from, x_lines_offset, y_lines_offset, nodes_offset, line_x, line_y}
+use Rattle.sheet_layout.specs.Axis.{lines_of, line_of}
+use Rattle.sheet_layout.specs.declared.axis.Axis as layout
 use Rattle.sheet_calls.specs.Refusals.{outside, Accepted}
-use Rattle.sheet_calls.specs.WellFormed.{Inside}
+use Rattle.sheet_calls.specs.WellFormed.{Inside, Rising}
 use Rattle.element_sibson.specs.Piece.{piece_at}
 use Rattle.element_cell.specs.Cell.{pixel_point, PixelInCell}
 use Rattle.element_cell.specs.Pieces.{named}
@@ -53,9 +55,22 @@ mesh s accepted = let w = sound s accepted in record {
   down = record { few = w.few_rows; many = w.many_rows; there = omega (arith, w.whole); rising = w.rising_y };
 }
 
--- the header of a sheet with axes is there
+-- the header and the lines of a sheet with axes are there
 pub header_read : {s : List ℕ} → Mesh s → header_size ≤ length s
 header_read m = omega (arith, m.across.there)
+
+pub lines_read : {s : List ℕ} → Mesh s → nodes_offset s ≤ length s
+lines_read m = omega (arith, m.down.there)
+
+-- what they are along either axis
+pub record Along (a : layout.Axis) (s : List ℕ) : Type 0 where
+  pub few : 2 ≤ lines_of a s
+  pub many : lines_of a s ≤ 65
+  pub rising : Rising (line_of a s) (lines_of a s)
+
+pub along : {s : List ℕ} → Mesh s → (a : layout.Axis) → Along a s
+along m layout.TheVariants.X = record { few = m.across.few; many = m.across.many; rising = m.across.rising }
+along m layout.TheVariants.Y = record { few = m.down.few; many = m.down.many; rising = m.down.rising }
 
 module _ (s : List ℕ) (x y : ℕ) (inside : Inside s x y) where
   pub x_between : Between (line_from s x_lines_offset) (columns s) x
@@ -78,8 +93,8 @@ pixel_inside m h k = record {
 module _ {s : List ℕ} {x y : ℕ} (m : Mesh s) (inside : Inside s x y) where
   pub column_holds : CellTouches (line_x s) (columns s) (found s x y).columns.highest x
   unfolding found
-  column_holds = highest_holds s x_lines_offset (columns s) x m.across (x_between s x y inside)
+  column_holds = highest_holds (line_x s) (columns s) x m.across.few m.across.rising (x_between s x y inside)
 
   pub row_holds : CellTouches (line_y s) (rows s) (found s x y).rows.highest y
   unfolding found
-  row_holds = highest_holds s (y_lines_offset s) (rows s) y m.down (y_between s x y inside)
+  row_holds = highest_holds (line_y s) (rows s) y m.down.few m.down.rising (y_between s x y inside)

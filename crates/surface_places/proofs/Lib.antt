@@ -1,2 +1,3 @@
 pub mod Axes
 pub mod Search
+pub mod Spots

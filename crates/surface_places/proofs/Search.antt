@@ -1,56 +1,53 @@
 -- The cells that touch a position between an axis's outer lines, and the search for the highest: it lies from `low` on and before `high` at the start, and
 -- stays there. Assumes nothing.
-use Prim.Native.Nat.{ℕ, suc, ◌+◌, ◌-◌, ◌/◌, ◌≤◌, ◌<◌}
-use mathlib.Core.Path.{◌≡◌, sym, ap, ◌∙◌}
-use mathlib.Core.List.{List}
-use native.Mathlib.Omega.{arith}
+use Rattle.std.proofs.Common.{◌≡◌, ℕ, suc, ◌+◌, ◌-◌, ◌/◌, ◌≤◌, ◌<◌, sym, ap, ◌∙◌, arith}
 use native.Mathlib.Decide.{dec_lt}
-use Rattle.sheet_layout.specs.Format.{line_from}
+use Rattle.sheet_calls.specs.WellFormed.{Rising}
 use Rattle.sheet_calls.proofs.Rising.{rise}
 use Rattle.surface_of_sheet.specs.Place.{lowest_along, highest_along, cells_along}
 use Rattle.surface_of_sheet.proofs.Along.{along_starts, along_last, axis_cell, axis_ends}
 use Rattle.surface_of_sheet.proofs.CellsAlong.{low_below, low_last, cell_laws}
-use Rattle.surface_places.specs.Found.{Axis, Between, CellTouches, cells_of}
+use Rattle.surface_places.specs.Found.{Between, CellTouches, cells_of}
 
 -- the line in the middle, where one is left between low and high
 pub middle_between : (low high : ℕ) → low + 1 < high → (low < (low + high) / 2) × ((low + high) / 2 < high)
 middle_between low high h = (omega arith, omega arith)
 
-module _ (s : List ℕ) (start lines position : ℕ) where
+module _ (line : ℕ → ℕ) (lines position : ℕ) where
   -- the cell
   abbrev pub cell_on : ℕ
-  cell_on = highest_along (line_from s start) (lines - 2) position
+  cell_on = highest_along line (lines - 2) position
 
   -- the cell lies from low on and before high, which is a line of the axis
   pub record Searched (low high : ℕ) : Type 0 where
     pub from : low ≤ cell_on
     pub below : cell_on < high
-    pub line : high < lines
+    pub in_axis : high < lines
 
-  module _ (axis : Axis s start lines) (between : Between (line_from s start) lines position) where
+  module _ (few : 2 ≤ lines) (rising : Rising line lines) (between : Between line lines position) where
     -- it touches the position
-    pub highest_holds : CellTouches (line_from s start) lines cell_on position
+    pub highest_holds : CellTouches line lines cell_on position
     highest_holds = record {
-      has = axis_cell (line_from s start) axis.few position;
-      starts = along_starts (line_from s start) position (lines - 2) between.first;
-      ends = axis_ends (line_from s start) axis.few position between.last;
+      has = axis_cell line few position;
+      starts = along_starts line position (lines - 2) between.first;
+      ends = axis_ends line few position between.last;
     }
 
     -- on its first line the one before it does too, where there is one; else it is the only one
-    pub two_cells : 0 < cell_on → position ≤ line_from s start cell_on → record { lowest = cell_on - 1; highest = cell_on } ≡ cells_of (cells_along (line_from s start) (lines - 2) position)
+    pub two_cells : 0 < cell_on → position ≤ line cell_on → record { lowest = cell_on - 1; highest = cell_on } ≡ cells_of (cells_along line (lines - 2) position)
     two_cells h l =
         let back : suc (cell_on - 1) ≡ cell_on = omega arith in
-        let on : position ≡ line_from s start (suc (cell_on - 1)) = rw back (omega (arith, highest_holds.starts)) in
-        let both = cell_laws.inner (line_from s start) lines (cell_on - 1) axis.rising (omega (arith, highest_holds.has)) in
-        let lowest = sym (ap (λ q. lowest_along (line_from s start) (lines - 2) q) on ∙ ap (λ c. c.lowest) both) in
+        let on : position ≡ line (suc (cell_on - 1)) = rw back (omega (arith, highest_holds.starts)) in
+        let both = cell_laws.inner line lines (cell_on - 1) rising (omega (arith, highest_holds.has)) in
+        let lowest = sym (ap (λ q. lowest_along line (lines - 2) q) on ∙ ap (λ c. c.lowest) both) in
         λ t. record { lowest = lowest t; highest = cell_on }
 
-    pub one_cell : (0 < cell_on → line_from s start cell_on < position) → record { lowest = cell_on; highest = cell_on } ≡ cells_of (cells_along (line_from s start) (lines - 2) position)
+    pub one_cell : (0 < cell_on → line cell_on < position) → record { lowest = cell_on; highest = cell_on } ≡ cells_of (cells_along line (lines - 2) position)
     one_cell h =
-        let below = low_below (line_from s start) position (lines - 2) in
-        let least : 0 < cell_on → cell_on ≤ lowest_along (line_from s start) (lines - 2) position =
-        λ p. low_last (line_from s start) position (lines - 2) cell_on (omega (arith, highest_holds.has)) (h p) in
-        let lowest : cell_on ≡ lowest_along (line_from s start) (lines - 2) position = elim (dec_lt 0 cell_on) [
+        let below = low_below line position (lines - 2) in
+        let least : 0 < cell_on → cell_on ≤ lowest_along line (lines - 2) position =
+        λ p. low_last line position (lines - 2) cell_on (omega (arith, highest_holds.has)) (h p) in
+        let lowest : cell_on ≡ lowest_along line (lines - 2) position = elim (dec_lt 0 cell_on) [
           | yes p ↦ omega (arith, least p)
           | no d ↦ omega arith
         ] in
@@ -58,22 +55,22 @@ module _ (s : List ℕ) (start lines position : ℕ) where
 
     -- the whole axis
     pub starts : Searched 0 (lines - 1)
-    starts = record { from = omega arith; below = omega (arith, highest_holds.has); line = omega (arith, axis.few) }
+    starts = record { from = omega arith; below = omega (arith, highest_holds.has); in_axis = omega (arith, few) }
 
     -- a middle line at or before the position, or beyond it
-    pub moves_low : (low middle high : ℕ) → Searched low high → middle < high → line_from s start middle ≤ position → Searched middle high
+    pub moves_low : (low middle high : ℕ) → Searched low high → middle < high → line middle ≤ position → Searched middle high
     moves_low low middle high h m l = record {
-      from = along_last (line_from s start) position (lines - 2) middle (omega (arith, h.line)) l;
+      from = along_last line position (lines - 2) middle (omega (arith, h.in_axis)) l;
       below = h.below;
-      line = h.line;
+      in_axis = h.in_axis;
     }
 
-    pub moves_high : (low middle high : ℕ) → Searched low high → middle < high → position < line_from s start middle → Searched low middle
-    moves_high low middle high h m l = record { from = h.from; below = by (dec_lt cell_on middle); line = omega (arith, h.line) }
+    pub moves_high : (low middle high : ℕ) → Searched low high → middle < high → position < line middle → Searched low middle
+    moves_high low middle high h m l = record { from = h.from; below = by (dec_lt cell_on middle); in_axis = omega (arith, h.in_axis) }
       where
         by : Dec (cell_on < middle) → cell_on < middle
         by (yes k) = k
-        by (no k) = absurd (let far = rise axis.rising middle cell_on (omega arith) (omega (arith, highest_holds.has)) in omega (arith, highest_holds.starts))
+        by (no k) = absurd (let far = rise rising middle cell_on (omega arith) (omega (arith, highest_holds.has)) in omega (arith, highest_holds.starts))
 
   -- where no line is left between them, low is the cell
   pub found : (low high : ℕ) → Searched low high → high ≤ low + 1 → low ≡ cell_on
