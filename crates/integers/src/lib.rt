@@ -15,7 +15,7 @@ pub fn floor_div(n: i64, d: i64) -> i64
     requires { Ratio n d }
     ensures { result ≡ floor_div n (nat_abs d) }
 {
-    if n < 0 { -1 - (-1 - n) / d } else { n / d }
+    n.div_euclid(d)
 }
 
 // n / d rounded by the rule.
@@ -44,8 +44,8 @@ impl Denominator {
         let raised = d * scale;
         let value = below_38_bits(d);
         Denominator {
-            value: value,
-            scale: scale,
+            value,
+            scale,
             inverse: 4611686018427387904 / (raised / 4),
         }
     }
