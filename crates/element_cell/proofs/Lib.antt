@@ -1,5 +1,5 @@
 pub mod Sides
 pub mod Arrays
-pub mod Coefficients
+pub mod Listed
 pub mod Names
 pub mod Pieces

@@ -14,9 +14,8 @@ use Rattle.integers.proofs.Deduce.{◌·◌, certified, certified_sound}
 use Rattle.element_sibson.specs.Cubic.{Cell, pixel}
 use Rattle.element_sibson.specs.Piece.{Piece, top, right, bottom, left, triangle, piece_at}
 use Rattle.element_sibson.proofs.Quote.{Quotient, wholeₑ, complementₑ, ◌÷ₑ◌, ◌≤ₑ◌}
-use Rattle.element_cell.specs.Cell.{pixel_cell, pixel_point, PixelInCell, cell}
+use Rattle.element_cell.specs.Cell.{Pixel, pixel_cell, pixel_point, PixelInCell, cell}
 use Rattle.element_cell.proofs.Sides.{side_is}
-use Rattle.element_cell.specs.declared.Pixel.{Pixel}
 
 -- ---- the inequalities of the triangles, multiplied by the cell's area: of x = r W H, y = s W H and q = W H
 

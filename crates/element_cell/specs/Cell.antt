@@ -3,7 +3,6 @@ use Rattle.std.specs.Prelude.{ℕ, zero, suc, ◌≤◌}
 use Rattle.std.proofs.Common.{arith}
 use Rattle.element_sibson.specs.Fraction.{Positive, positive}
 use Rattle.element_sibson.specs.Cubic.{Cell, Point, pixel}
-use Rattle.element_cell.specs.declared.Pixel.{Pixel}
 
 -- the width or height of a cell, from 1 to 64 pixels
 pub record Side (l : ℕ) : Type 0 where
@@ -18,6 +17,13 @@ side (suc l) = record { number = suc l; above = omega arith }
 -- the cell w pixels wide and h high
 unfoldable pub cell : ℕ → ℕ → Cell
 cell w h = record { W = side w; H = side h }
+
+-- a pixel as clauses see it
+pub record Pixel : Type 0 where
+  pub a : ℕ
+  pub b : ℕ
+  pub width : ℕ
+  pub height : ℕ
 
 -- a pixel's cell, and its point there
 abbrev pub pixel_cell : Pixel → Cell

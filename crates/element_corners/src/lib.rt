@@ -1,9 +1,10 @@
 // A cell's twelve corner numbers: corners 00, 10, 01 and 11, of each the height and the slopes per cell width and per cell height.
+// Their bound, AllWithin, stays a clause: a struct of the twelve would take the place of this array, which is the paper's form.
 #![tactic(auto)]
 
 ghost use Rattle.std.specs.Prelude.{◌≡◌};
 ghost use Rattle.integers.specs.Within.{◌within◌};
-ghost use Rattle.element_sibson.specs.Element.{corner_numbers, swap, negate_x, negate_y, exchanged, top_down, left_right};
+ghost use Rattle.element_sibson.specs.Element.{corner_numbers, swap, negate_y, exchanged, top_down, left_right};
 ghost use Rattle.element_cell.specs.Cell.{Side, cell};
 ghost use Rattle.element_cell.specs.Corners.{jet_of, corners, three, arrays, numbers_of, largest, AllWithin, Measured};
 
@@ -42,17 +43,13 @@ pub fn top_down(n: [[i64; 3]; 4]) -> [[i64; 3]; 4]
     ]
 }
 
-// Left and right corners exchanged, x-slopes negated.
+// Left and right corners exchanged, x-slopes negated: top and bottom of the exchanged numbers.
 pub fn left_right(n: [[i64; 3]; 4]) -> [[i64; 3]; 4]
     requires { AllWithin largest (corners n) }
     ensures { result ≡ arrays (left_right (corners n)) }
 {
-    [
-        negate_x(n[1]),
-        negate_x(n[0]),
-        negate_x(n[3]),
-        negate_x(n[2]),
-    ]
+    let turned = top_down(exchanged(n));
+    exchanged(turned)
 }
 
 // One corner: the x-slope times the width, the y-slope times the height.
@@ -68,14 +65,6 @@ fn swap(c: [i64; 3]) -> [i64; 3]
     ensures { result ≡ three (swap (jet_of c)) }
 {
     [c[0], c[2], c[1]]
-}
-
-// Its x-slope negated.
-fn negate_x(c: [i64; 3]) -> [i64; 3]
-    requires { (jet_of c).x_slope within largest }
-    ensures { result ≡ three (negate_x (jet_of c)) }
-{
-    [c[0], -c[1], c[2]]
 }
 
 // Its y-slope negated.

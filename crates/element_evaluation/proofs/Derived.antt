@@ -16,7 +16,7 @@ use Rattle.element_cell.specs.Cell.{side, cell, pixel_cell, PixelInCell}
 use Rattle.element_cell.specs.Corners.{largest}
 use Rattle.element_cell.specs.Coefficients.{listed, halves, Sized}
 use Rattle.element_cell.specs.declared.Pixel.{Pixel}
-use Rattle.element_cell.proofs.Coefficients.{sized_within}
+use Rattle.element_cell.proofs.Listed.{sized_within}
 use Rattle.element_cell.proofs.Sides.{length_within, side_is}
 use Rattle.element_evaluation.specs.Needs.{EachWithin}
 use Rattle.element_evaluation.specs.LowDegree.{scaled_of, linear_at, quadratic_at}

@@ -8,7 +8,7 @@ ghost use Rattle.element_cell.specs.Corners.{corners, largest, AllWithin};
 ghost use Rattle.element_cell.specs.Coefficients.{listed};
 ghost use Rattle.element_cell.specs.Pieces.{piece_of};
 
-use element_cell::Piece;
+use element_cell::{Coefficients, Piece};
 
 // The doubled weights of piece 0: a row for each corner number, a column for each power.
 const WEIGHTS: [[i64; 10]; 12] = [
@@ -28,19 +28,21 @@ const WEIGHTS: [[i64; 10]; 12] = [
 ];
 
 // Those of a piece, from the cell's corner numbers: the set we read from.
-pub fn coefficients(n: [[i64; 3]; 4], piece: Piece) -> [i64; 10]
+pub fn coefficients(n: [[i64; 3]; 4], piece: Piece) -> Coefficients
     requires { AllWithin largest (corners n) }
     ensures { result ≡ listed (sibson (corners n) (piece_of piece)) }
 {
-    match piece {
+    let doubled = match piece {
         Piece::Top => on_top(n),
         Piece::Right => element_turnings::mirrored(on_left(element_corners::left_right(n))),
         Piece::Bottom => element_turnings::flipped(on_top(element_corners::top_down(n))),
         Piece::Left => on_left(n),
-    }
+    };
+    Coefficients { doubled }
 }
 
 // Piece 0, a coefficient for each power. The table is lent and the powers are literal, so the compiler folds the weights.
+#[tactic(auto, unfolding(element_sibson::specs::Element::weights))]
 fn on_top(n: [[i64; 3]; 4]) -> [i64; 10]
     requires { AllWithin largest (corners n) }
     ensures { result ≡ listed (on_top (corners n)) }
@@ -74,10 +76,8 @@ fn weighed(table: &[[i64; 10]; 12], power: usize, n: [[i64; 3]; 4]) -> i64
     ensures { (p : Power) → power ≡ column p → result ≡ weighed weights (in_order (corners n)) p }
 {
     let mut sum: i64 = 0;
-    let mut i: usize = 0;
-    while i < 12 {
+    for i in 0..12 {
         sum += table[i][power] * n[i / 3][i % 3];
-        i += 1;
     }
     sum
 }

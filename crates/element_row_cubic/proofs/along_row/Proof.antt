@@ -13,7 +13,7 @@ use Rattle.integers.proofs.Operand.{Operand, known, returned, ◌⊠◌, asks, g
 use Rattle.element_cell.specs.Cell.{Side, cell}
 use Rattle.element_cell.specs.Corners.{largest}
 use Rattle.element_cell.specs.Coefficients.{listed, size, halves}
-use Rattle.element_cell.proofs.Coefficients.{sized_within}
+use Rattle.element_cell.proofs.Listed.{sized_within}
 use Rattle.element_cell.proofs.Sides.{length_within, square_within, cube_within, side_is}
 use Rattle.element_row_cubic.specs.Row.{down, along_row}
 use Rattle.element_row_cubic.proofs.RowBounds.{down_within}

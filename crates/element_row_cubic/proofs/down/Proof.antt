@@ -7,7 +7,7 @@ use lib.IntN.{pos}
 use mir.Syntax.{w64}
 use Rattle.integers.proofs.Bounds.{is_within}
 use Rattle.integers.proofs.Operand.{Operand, known, returned, stored, ◌⊞◌, ◌⊠◌, asks, gives}
-use Rattle.element_cell.proofs.Coefficients.{in_size}
+use Rattle.element_cell.proofs.Listed.{in_size}
 use Rattle.element_cell.proofs.Sides.{length_within}
 use Rattle.element_row_cubic.specs.Row.{down}
 use Rattle.element_row_cubic.proofs.down.Statement.{statement}

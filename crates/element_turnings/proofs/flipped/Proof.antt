@@ -7,7 +7,7 @@ use mir.Syntax.{w64}
 use Rattle.integers.proofs.Operand.{Operand, literal, known, stored, opposite, ◌⊞◌, ◌⊠◌, asks, gives}
 use Rattle.element_sibson.specs.Element.{flipped}
 use Rattle.element_cell.specs.Coefficients.{listed, halves}
-use Rattle.element_cell.proofs.Coefficients.{coefficient_within}
+use Rattle.element_cell.proofs.Listed.{coefficient_within}
 use Rattle.element_turnings.proofs.flipped.Statement.{statement}
 use Rattle.element_turnings.proofs.flipped.Tie as tie
 
