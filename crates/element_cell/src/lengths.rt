@@ -1,4 +1,5 @@
 // Widths, heights and offsets within a cell, and their powers, as signed numbers.
+// Products and no `pow`, since the contracts have products; `as` and no `try_from`, since no length is too large for an i64.
 ghost use Rattle.std.specs.Prelude.{◌≡◌, ◌*◌, ◌≤◌, pos};
 
 pub fn length(l: usize) -> i64

@@ -11,7 +11,8 @@ ghost use Rattle.element_cell.specs.Coefficients.{listed, halves, Sized};
 pub fn transposed(k: [i64; 10]) -> [i64; 10]
     ensures { result ≡ listed (transposed (halves k)) }
 {
-    [k[0], k[2], k[1], k[5], k[4], k[3], k[9], k[8], k[7], k[6]]
+    let [one, r, s, rr, rs, ss, rrr, rrs, rss, sss] = k;
+    [one, s, r, ss, rs, rr, sss, rss, rrs, rrr]
 }
 
 // The cubic at (r, 1 − s).
@@ -19,16 +20,7 @@ pub fn flipped(k: [i64; 10]) -> [i64; 10]
     requires { Sized k }
     ensures { result ≡ listed (flipped (halves k)) }
 {
-    let one = k[0];
-    let r = k[1];
-    let s = k[2];
-    let rr = k[3];
-    let rs = k[4];
-    let ss = k[5];
-    let rrr = k[6];
-    let rrs = k[7];
-    let rss = k[8];
-    let sss = k[9];
+    let [one, r, s, rr, rs, ss, rrr, rrs, rss, sss] = k;
     [
         one + s + ss + sss,
         r + rs + rss,

@@ -1,47 +1,41 @@
--- The digits of a number: one more for each factor of 10, and they are its decimal text. Assumes nothing.
-use Prim.Native.Nat.{ℕ, zero, suc, ◌+◌, ◌*◌, ◌-◌, ◌/◌, ◌%◌, ◌^◌, ◌≤◌, ◌<◌}
-use mathlib.Core.Path.{◌≡◌, refl, ◌∙◌}
-use mathlib.Core.List.{List, [], ◌∷◌, ◌++◌}
-use native.Mathlib.Decide.{dec_lt}
-use native.Mathlib.Nat.{pow-suc}
-use native.Mathlib.Omega.{arith}
-use lib.ListN.{length, get_or, length-append, get_or-append}
-use lib.Seq.{get_or-append-add}
+-- The digits of a number: they are the library's, and its decimal text. Assumes nothing.
+use Rattle.std.proofs.Common.{ℕ, ℤ, zero, suc, pos, negsuc, ◌+◌, ◌*◌, ◌-◌, ◌/◌, ◌%◌, ◌^◌, ◌≤◌, ◌<◌, ◌≡◌, List, [], ◌∷◌, ◌++◌, length, get_or, refl, ◌∙◌, ap, inl, inr, lit≤, w64, to_z, of_z, FitsSigned, arith, length-append}
+use Rattle.std.specs.Fmt as Fmt
+use Rattle.std.proofs.lemmas.Bool.{cases_lt}
+use Rattle.std.proofs.lemmas.Fmt.{decimal_by_steps_wide, decimal_from_appends_wide, length-decimal-le_wide}
+use Rattle.std.proofs.lemmas.Int.{to_z-of_z}
+use Rattle.std.proofs.Math.ListN.{get_or-append}
+use Rattle.std.proofs.Math.Nat.{pow-suc, lt_of_lt_of_le}
+use Rattle.std.proofs.Math.Seq.{get_or-append-add}
 use borrow.Author.Tests.{lt-ltb, le-ltb}
-use Rattle.program_text.specs.Text.{digit, spelled, natural}
+use lib.Signed.{mag}
+use Rattle.program_text.specs.Text.{digit, minus, spelled, natural, decimal}
 use Rattle.program_text.specs.TextLaws.{value_from, Spells}
 
--- ---- the first digit, and one more
+-- ---- they are the library's
 
-spelled_one : (k n : ℕ) → n < 10 → spelled (suc k) n ≡ digit n ∷ []
-unfolding spelled
-spelled_one k n h = rw (lt-ltb n 10 h) refl
+wide : (n : ℕ) → n < 10 ^ 20 → n < 10 ^ 64
+wide n h = lt_of_lt_of_le h (lit≤ tt)
 
-spelled_more : (k n : ℕ) → 10 ≤ n → spelled (suc k) n ≡ spelled k (n / 10) ++ digit (n % 10) ∷ []
-unfolding spelled
-spelled_more k n h = rw (le-ltb n 10 h) refl
+pub natural_is : (n : ℕ) → n < 10 ^ 20 → natural n ≡ Fmt.decimal n
+unfolding natural spelled
+natural_is n h =
+    decimal_from_appends_wide spelled (record { one = λ k n l. rw (lt-ltb n 10 l) refl; more = λ k n l. rw (le-ltb n 10 l) refl }) 20 n (wide n h)
+    (length-decimal-le_wide 20 n (omega arith) h (wide n h))
+
+signed_is : (z : ℤ) → mag z < 2 ^ 63 → decimal z ≡ Fmt.signed_decimal z
+unfolding decimal
+signed_is (pos n) h = natural_is n (omega (arith, h))
+signed_is (negsuc n) h = ap (λ cs. minus ∷ cs) (natural_is (suc n) (omega (arith, h)))
+
+-- of a number of 64 bits, as it is handed on
+pub decimal_is : (z : ℤ) → FitsSigned w64 z → decimal z ≡ Fmt.signed_decimal (to_z w64 (of_z w64 z))
+decimal_is z f = rw (to_z-of_z w64 z f) (signed_is z f.sfits)
+
+-- ---- they are the decimal text
 
 tenth_below : (k n : ℕ) → n < 10 ^ suc k → n / 10 < 10 ^ k
 tenth_below k n h = omega (arith, pow-suc 10 k)
-
--- more digits than a number has change nothing
-enough : (k n : ℕ) → n < 10 ^ suc k → spelled (suc (suc k)) n ≡ spelled (suc k) n
-enough zero n h = spelled_one 1 n h ∙ rw (spelled_one 0 n h) refl
-enough (suc k) n h =
-    elim (dec_lt n 10) [
-      | yes l ↦ rw (spelled_one (suc (suc k)) n l, spelled_one (suc k) n l) refl
-      | no l ↦ rw (spelled_more (suc (suc k)) n (omega arith), spelled_more (suc k) n (omega arith), enough k (n / 10) (tenth_below (suc k) n h)) refl
-    ]
-
-pub natural_one : (n : ℕ) → n < 10 → natural n ≡ digit n ∷ []
-unfolding natural
-natural_one n h = spelled_one 19 n h
-
-pub natural_more : (n : ℕ) → 10 ≤ n → n < 10 ^ 20 → natural n ≡ natural (n / 10) ++ digit (n % 10) ∷ []
-unfolding natural
-natural_more n h l = spelled_more 19 n h ∙ rw (enough 18 (n / 10) (tenth_below 19 n l)) refl
-
--- ---- they are the decimal text
 
 value_append : (n : ℕ) (a : List ℕ) (c : ℕ) → value_from n (a ++ c ∷ []) ≡ 10 * value_from n a + (c - 48)
 unfolding value_from
@@ -59,9 +53,9 @@ one_spells n h = record { value = omega arith; digits = λ i l. at i l; first = 
 module _ (n : ℕ) (a : List ℕ) (h : 10 ≤ n) (s : Spells (n / 10) a) where
   more_digits : (i : ℕ) → i < length (a ++ digit (n % 10) ∷ []) → (48 ≤ get_or (a ++ digit (n % 10) ∷ []) i 0) × (get_or (a ++ digit (n % 10) ∷ []) i 0 ≤ 57)
   more_digits i l =
-      elim (dec_lt i (length a)) [
-        | yes k ↦ rw (get_or-append a (digit (n % 10) ∷ []) 0 i k) (s.digits i k)
-        | no k ↦
+      elim (cases_lt i (length a)) [
+        | inl k ↦ rw (get_or-append a (digit (n % 10) ∷ []) 0 i k) (s.digits i k)
+        | inr k ↦
             let e : length a + 0 ≡ i = omega (arith, length-append a (digit (n % 10) ∷ [])) in
             rw (← e, get_or-append-add a (digit (n % 10) ∷ []) 0 0) (omega arith, omega arith)
       ]
@@ -80,14 +74,5 @@ module _ (n : ℕ) (a : List ℕ) (h : 10 ≤ n) (s : Spells (n / 10) a) where
     few = more_few;
   }
 
-spelled_spells : (k n : ℕ) → n < 10 ^ suc k → Spells n (spelled (suc k) n)
-spelled_spells zero n h = rw (spelled_one 0 n h) (one_spells n h)
-spelled_spells (suc k) n h =
-    elim (dec_lt n 10) [
-      | yes l ↦ rw (spelled_one (suc k) n l) (one_spells n l)
-      | no l ↦ rw (spelled_more (suc k) n (omega arith)) (more_spells n _ (omega arith) (spelled_spells k (n / 10) (tenth_below (suc k) n h)))
-    ]
-
 pub natural_spells : (n : ℕ) → n < 10 ^ 20 → Spells n (natural n)
-unfolding natural
-natural_spells n h = spelled_spells 19 n h
+natural_spells n h = rw (natural_is n h) (decimal_by_steps_wide Spells one_spells more_spells n (wide n h))

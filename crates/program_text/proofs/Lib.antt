@@ -1,5 +1,4 @@
 pub mod Digits
 pub mod Fields
 pub mod Lengths
-pub mod Signs
 pub mod Written

@@ -5,11 +5,13 @@ pub mod theorems;
 
 ghost use Rattle.std.specs.Prelude.{◌≡◌, ◌+◌, ◌≤◌, length};
 ghost use Rattle.sheet_words.specs.Word.{replaced};
-ghost use Rattle.program_text.specs.Text.{natural, decimal, field, line, refused_line};
+ghost use Rattle.program_text.specs.Text.{field, line, refused_line};
 
-const BLANK: u8 = 32;
+use itoa::Buffer;
 
-const NEWLINE: u8 = 10;
+const BLANK: u8 = b' ';
+
+const NEWLINE: u8 = b'\n';
 
 // A line of numbers from index `at` on.
 pub fn line(out: &mut [u8], at: usize, numbers: &[i64]) -> usize
@@ -19,10 +21,8 @@ pub fn line(out: &mut [u8], at: usize, numbers: &[i64]) -> usize
 {
     let last = numbers.len() - 1;
     let mut end = at;
-    let mut k: usize = 0;
-    while k < last {
-        end = field(out, end, numbers[k], BLANK);
-        k += 1;
+    for z in &numbers[..last] {
+        end = field(out, end, *z, BLANK);
     }
     field(out, end, numbers[last], NEWLINE)
 }
@@ -33,15 +33,8 @@ pub fn refused(out: &mut [u8], n: u32) -> usize
     ensures end { result ≡ length (refused_line n) }
     ensures text { out.new ≡ replaced out.old 0 (refused_line n) }
 {
-    out[0] = b'r';
-    out[1] = b'e';
-    out[2] = b'f';
-    out[3] = b'u';
-    out[4] = b's';
-    out[5] = b'e';
-    out[6] = b'd';
-    out[7] = BLANK;
-    field(out, 8, n as i64, NEWLINE)
+    let end = text(out, 0, b"refused ");
+    field(out, end, i64::from(n), NEWLINE)
 }
 
 // A number and the character behind it.
@@ -50,36 +43,19 @@ fn field(out: &mut [u8], at: usize, z: i64, behind: u8) -> usize
     ensures end { result ≡ at + length (field z behind) }
     ensures text { out.new ≡ replaced out.old at (field z behind) }
 {
-    let end = decimal(out, at, z);
+    let mut buffer = Buffer::new();
+    let end = text(out, at, buffer.format(z).as_bytes());
     out[end] = behind;
     end + 1
 }
 
-// A signed number. −z itself would not fit for the least one.
-fn decimal(out: &mut [u8], at: usize, z: i64) -> usize
-    requires { at + length (decimal z) ≤ length out.old }
-    ensures end { result ≡ at + length (decimal z) }
-    ensures text { out.new ≡ replaced out.old at (decimal z) }
+// Characters as they are.
+fn text(out: &mut [u8], at: usize, characters: &[u8]) -> usize
+    requires { at + length characters.now ≤ length out.old }
+    ensures end { result ≡ at + length characters.now }
+    ensures text { out.new ≡ replaced out.old at characters.now }
 {
-    if z < 0 {
-        let below = -1 - z;
-        out[at] = b'-';
-        return natural(out, at + 1, below as u64 + 1);
-    }
-    natural(out, at, z as u64)
-}
-
-// A number without a sign: what stands before its last digit, and that digit.
-fn natural(out: &mut [u8], at: usize, n: u64) -> usize
-    requires { at + length (natural n) ≤ length out.old }
-    ensures end { result ≡ at + length (natural n) }
-    ensures text { out.new ≡ replaced out.old at (natural n) }
-{
-    if n < 10 {
-        out[at] = 48 + n as u8;
-        return at + 1;
-    }
-    let last = natural(out, at, n / 10);
-    out[last] = 48 + (n % 10) as u8;
-    last + 1
+    let end = at + characters.len();
+    out[at..end].copy_from_slice(characters);
+    end
 }

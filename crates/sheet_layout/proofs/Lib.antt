@@ -1,5 +1,4 @@
 pub mod Meaning
-pub mod AxisLines
 pub mod Some
 pub mod Gathered
 pub mod NodeRange

@@ -1,6 +1,7 @@
 // What a reading answers: 01's three readings as whole numbers, each with its divisor, and the answer with the quotients as 64-bit floats.
 #![tactic(auto)]
 
+pub mod kind;
 pub mod theorems;
 
 ghost use Rattle.std.specs.Prelude.{◌≡◌, [], ◌∷◌};
@@ -42,14 +43,14 @@ impl LevelReading {
     pub fn new(height: i64) -> Self
         ensures { result.height ≡ height }
     {
-        Self { height: height }
+        Self { height }
     }
 
     pub fn answer(self) -> Answer
         requires { FitsFloat self.height }
         ensures { outcome result ≡ answered 0 (self.height ∷ []) }
     {
-        Answer::Level(self.height as f64 / LevelReading::DIVISOR)
+        Answer::Level(self.height as f64 / Self::DIVISOR)
     }
 }
 
@@ -59,17 +60,14 @@ impl TiltReading {
     pub fn new(x: i64, y: i64) -> Self
         ensures { (result.x ≡ x) × (result.y ≡ y) }
     {
-        Self { x: x, y: y }
+        Self { x, y }
     }
 
     pub fn answer(self) -> Answer
         requires { FitsFloat self.x × FitsFloat self.y }
         ensures { outcome result ≡ answered 1 (self.x ∷ self.y ∷ []) }
     {
-        Answer::Tilt(
-            self.x as f64 / TiltReading::DIVISOR,
-            self.y as f64 / TiltReading::DIVISOR,
-        )
+        Answer::Tilt(self.x as f64 / Self::DIVISOR, self.y as f64 / Self::DIVISOR)
     }
 }
 
@@ -79,11 +77,7 @@ impl BendReading {
     pub fn new(xx: i64, xy: i64, yy: i64) -> Self
         ensures { (result.xx ≡ xx) × (result.xy ≡ xy) × (result.yy ≡ yy) }
     {
-        Self {
-            xx: xx,
-            xy: xy,
-            yy: yy,
-        }
+        Self { xx, xy, yy }
     }
 
     pub fn answer(self) -> Answer
@@ -91,9 +85,9 @@ impl BendReading {
         ensures { outcome result ≡ answered 2 (self.xx ∷ self.xy ∷ self.yy ∷ []) }
     {
         Answer::Bend(
-            self.xx as f64 / BendReading::DIVISOR,
-            self.xy as f64 / BendReading::DIVISOR,
-            self.yy as f64 / BendReading::DIVISOR,
+            self.xx as f64 / Self::DIVISOR,
+            self.xy as f64 / Self::DIVISOR,
+            self.yy as f64 / Self::DIVISOR,
         )
     }
 }

@@ -3,17 +3,18 @@
 
 pub mod spot;
 
-ghost use Rattle.std.specs.Prelude.{◌≡◌, suc, ◌+◌, ◌*◌, ◌-◌, ◌≤◌, ◌<◌, length};
-ghost use Rattle.sheet_layout.specs.Format.{columns, rows, line_from, line_x, line_y};
+ghost use Rattle.std.specs.Prelude.{◌≡◌, ◌-◌};
+ghost use Rattle.sheet_layout.specs.Format.{columns, rows, line_x, line_y};
+ghost use Rattle.sheet_layout.specs.Axis.{line_of, lines_of};
 ghost use Rattle.sheet_calls.specs.Refusals.{outside};
 ghost use Rattle.sheet_calls.specs.WellFormed.{Inside};
 ghost use Rattle.surface_of_sheet.specs.Place.{cells_along, highest_along, place};
-ghost use Rattle.surface_places.specs.Found.{Axis, Mesh, Between, CellTouches, off_axis, cells_of, found, in_cell, pixel_in, holding};
+ghost use Rattle.surface_places.specs.Found.{Mesh, Between, CellTouches, off_axis, cells_of, found, in_cell, pixel_in, holding};
 
 use element_cell::{Piece, Pixel, piece_at};
 use sheet_calls::accepted::Sheet;
-use sheet_layout::header::{columns, rows};
-use sheet_layout::{X_LINES_OFFSET, line_from, y_lines_offset};
+use sheet_layout::axis::Axis;
+use sheet_words::word;
 
 // The lowest and the highest cell along an axis that touch a position. They differ on inner lines alone.
 #[derive(Clone, Copy)]
@@ -53,6 +54,7 @@ pub struct Lines<'a> {
 }
 
 impl<'a> Lines<'a> {
+    // Those of an accepted sheet.
     pub fn of(sheet: Sheet<'a>) -> Lines<'a>
         ensures { result.bytes ≡ sheet.entry.bytes }
     {
@@ -63,10 +65,7 @@ impl<'a> Lines<'a> {
     pub fn outside(self, x: u32, y: u32) -> bool
         ensures { result ≡ outside self.entry.bytes.now x y }
     {
-        let sheet = self.bytes;
-        let across = off_axis(sheet, X_LINES_OFFSET, columns(sheet), x);
-        let down = off_axis(sheet, y_lines_offset(sheet), rows(sheet), y);
-        across | down
+        self.off_axis(Axis::X, x) | self.off_axis(Axis::Y, y)
     }
 
     // The cells that touch a pixel of the mesh.
@@ -74,10 +73,9 @@ impl<'a> Lines<'a> {
         requires { Inside self.bytes.now x y }
         ensures { result ≡ found self.entry.bytes.now x y }
     {
-        let sheet = self.bytes;
         Found {
-            columns: cells_along(sheet, X_LINES_OFFSET, columns(sheet), x),
-            rows: cells_along(sheet, y_lines_offset(sheet), rows(sheet), y),
+            columns: self.cells_along(Axis::X, x),
+            rows: self.cells_along(Axis::Y, y),
         }
     }
 
@@ -102,9 +100,8 @@ impl<'a> Lines<'a> {
         requires { CellTouches (line_x self.bytes.now) (columns self.bytes.now) column x × CellTouches (line_y self.bytes.now) (rows self.bytes.now) row y }
         ensures { result ≡ pixel_in self.entry.bytes.now column row x y }
     {
-        let sheet = self.bytes;
-        let across = in_cell(sheet, X_LINES_OFFSET, column, x);
-        let down = in_cell(sheet, y_lines_offset(sheet), row, y);
+        let across = self.in_cell(Axis::X, column, x);
+        let down = self.in_cell(Axis::Y, row, y);
         Pixel {
             a: across.offset,
             b: down.offset,
@@ -112,64 +109,54 @@ impl<'a> Lines<'a> {
             height: down.size,
         }
     }
-}
 
-// Whether a position lies before an axis's first line or beyond its last.
-fn off_axis(sheet: &[u8], start: usize, lines: usize, position: u32) -> bool
-    requires { Axis sheet.now start lines }
-    ensures { result ≡ off_axis (line_from sheet.now start) lines position }
-{
-    (position < line_from(sheet, start, 0)) | (line_from(sheet, start, lines - 1) < position)
-}
-
-// Where a position lies in a cell that touches it.
-fn in_cell(sheet: &[u8], start: usize, cell: usize, position: u32) -> OnAxis
-    requires { (start + 2 * cell + 3 < length sheet.now) × (line_from sheet.now start cell ≤ position) × (position ≤ line_from sheet.now start (suc cell)) }
-    ensures { result ≡ in_cell (line_from sheet.now start) cell position }
-{
-    let before = line_from(sheet, start, cell);
-    let after = line_from(sheet, start, cell + 1);
-    OnAxis {
-        offset: (position - before) as usize,
-        size: (after - before) as usize,
+    // Whether a position lies before an axis's first line or beyond its last.
+    fn off_axis(self, axis: Axis, position: u32) -> bool
+        ensures { result ≡ off_axis (line_of axis self.entry.bytes.now) (lines_of axis self.entry.bytes.now) position }
+    {
+        let last = axis.lines(self.bytes) - 1;
+        (position < axis.line(self.bytes, 0)) | (axis.line(self.bytes, last) < position)
     }
-}
 
-// The lowest and the highest cell that touch a position between the first and the last line of an axis.
-fn cells_along(sheet: &[u8], start: usize, lines: usize, position: u32) -> Cells
-    requires { Axis sheet.now start lines × Between (line_from sheet.now start) lines position }
-    ensures { result ≡ cells_of (cells_along (line_from sheet.now start) (lines - 2) position) }
-{
-    let highest = highest_along(sheet, start, lines, position);
-    // On the line that the highest cell starts at, the cell before it touches the position too, if there is one.
-    if 0 < highest {
-        if position <= line_from(sheet, start, highest) {
+    // Where a position lies in a cell that touches it.
+    fn in_cell(self, axis: Axis, cell: usize, position: u32) -> OnAxis
+        requires { CellTouches (line_of axis self.bytes.now) (lines_of axis self.bytes.now) cell position }
+        ensures { result ≡ in_cell (line_of axis self.entry.bytes.now) cell position }
+    {
+        let before = axis.line(self.bytes, cell);
+        let after = axis.line(self.bytes, cell + 1);
+        OnAxis {
+            offset: (position - before) as usize,
+            size: (after - before) as usize,
+        }
+    }
+
+    // The lowest and the highest cell that touch a position between the first and the last line of an axis.
+    fn cells_along(self, axis: Axis, position: u32) -> Cells
+        requires { Between (line_of axis self.bytes.now) (lines_of axis self.bytes.now) position }
+        ensures { result ≡ cells_of (cells_along (line_of axis self.entry.bytes.now) (lines_of axis self.entry.bytes.now - 2) position) }
+    {
+        let highest = self.highest_along(axis, position);
+        // On the line that the highest cell starts at, the cell before it touches the position too, if there is one.
+        if 0 < highest && position <= axis.line(self.bytes, highest) {
             return Cells {
                 lowest: highest - 1,
-                highest: highest,
+                highest,
             };
         }
-    }
-    Cells {
-        lowest: highest,
-        highest: highest,
-    }
-}
-
-// The last cell that starts at or before the position, by halving: `low` does, and `high` is the last line or lies beyond the position.
-fn highest_along(sheet: &[u8], start: usize, lines: usize, position: u32) -> usize
-    requires { Axis sheet.now start lines × Between (line_from sheet.now start) lines position }
-    ensures { result ≡ highest_along (line_from sheet.now start) (lines - 2) position }
-{
-    let mut low: usize = 0;
-    let mut high = lines - 1;
-    while low + 1 < high {
-        let middle = (low + high) / 2;
-        if line_from(sheet, start, middle) <= position {
-            low = middle;
-        } else {
-            high = middle;
+        Cells {
+            lowest: highest,
+            highest,
         }
     }
-    low
+
+    // The last cell that starts at or before the position: its number is how many of the inner lines do.
+    fn highest_along(self, axis: Axis, position: u32) -> usize
+        requires { Between (line_of axis self.bytes.now) (lines_of axis self.bytes.now) position }
+        ensures { result ≡ highest_along (line_of axis self.entry.bytes.now) (lines_of axis self.entry.bytes.now - 2) position }
+    {
+        let (lines, _) = self.bytes[axis.start(self.bytes)..].as_chunks::<2>();
+        let inner = &lines[1..axis.lines(self.bytes) - 1];
+        inner.partition_point(|line| word(line, 0) <= position)
+    }
 }

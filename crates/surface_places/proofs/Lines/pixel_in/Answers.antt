@@ -4,7 +4,8 @@ use Rattle.surface_places.proofs.Lines.pixel_in.Goals as goal
 
 pub invariant_of-result : goal.invariant_of-result
 invariant_of-result c =
-    rw (c.in_cell-down.ensures, c.y_lines_offset.ensures.0, c.in_cell-across.ensures, pixel_is _ _ _ _ _) (pixel_inside c.args.self.mesh c.requires.0 c.requires.1)
+    let s = c.args.self.bytes.now in
+    rw (c.in_cell-across.ensures, c.in_cell-down.ensures, pixel_is s c.args.column c.args.row c.args.x c.args.y) (pixel_inside c.args.self.mesh c.requires.0 c.requires.1)
 
 pub returns : goal.returns
-returns c = rw (c.in_cell-down.ensures, c.y_lines_offset.ensures.0, c.in_cell-across.ensures) (pixel_is _ _ _ _ _)
+returns c = rw (c.in_cell-across.ensures, c.in_cell-down.ensures) (pixel_is _ _ _ _ _)
