@@ -65,5 +65,6 @@ fn fill_node(sheet: &mut [u8], stiffness: u32, column: usize, row: usize)
     let along_x = slope(sheet, stiffness, Axis::X, column, row);
     let along_y = slope(sheet, stiffness, Axis::Y, row, column);
     let at = node_offset(sheet, column, row);
+    // both are in range, so they fit
     put_slopes(sheet, at, along_x as i32, along_y as i32);
 }

@@ -13,7 +13,7 @@ use sheet_layout::header::{columns, rows};
 use sheet_layout::node::Node;
 use sheet_layout::{NODE_SIZE, node_offset, put_node};
 
-// The node's bytes, where they lie in the sheet; or, refused, none from its start.
+// The node's bytes, where they lie in the sheet; or, refused, none from its start. No Result: 01 has it hand back a part of the caller's slice.
 pub fn node(sheet: &[u8], column: u32, row: u32) -> &[u8]
     ensures { Part sheet.entry result (looked_up sheet.now column row) }
 {
