@@ -61,7 +61,7 @@ pub fn fill_cell(row: &mut [i32], at: usize, count: usize, n: [[i64; 3]; 4], fir
 fn span_ends(p: Pixel) -> Ends
     ensures { result ≡ ends_of p }
 {
-    // s times the cell's area, and that over the height, rounded down and up
+    // s times the cell's area, and that over the height, rounded down and up: the compiler makes one division of them
     let y = p.b * p.width;
     let down = y / p.height;
     let up = y.div_ceil(p.height);

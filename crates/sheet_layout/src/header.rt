@@ -2,7 +2,7 @@
 ghost use Rattle.std.specs.Prelude.{◌≡◌, ◌≤◌, ◌<◌, length};
 ghost use Rattle.sheet_layout.specs.Format.{header_size, marked, version, supported, columns, rows, count_in, reserved};
 
-use sheet_words::{wide, word};
+use sheet_words::word;
 
 // How many bytes it has.
 pub const HEADER_SIZE: usize = 8;
@@ -34,14 +34,14 @@ pub fn columns(sheet: &[u8]) -> usize
     requires { header_size ≤ length sheet.now }
     ensures { (result ≡ columns sheet.now) × (result < 256) }
 {
-    wide(sheet[5]) as usize
+    usize::from(sheet[5])
 }
 
 pub fn rows(sheet: &[u8]) -> usize
     requires { header_size ≤ length sheet.now }
     ensures { (result ≡ rows sheet.now) × (result < 256) }
 {
-    wide(sheet[6]) as usize
+    usize::from(sheet[6])
 }
 
 // Whether an axis may have this many.
