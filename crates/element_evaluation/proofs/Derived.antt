@@ -1,25 +1,15 @@
--- Bounds of coefficients, of derivatives, and of polynomials of degree 1 and 2 at a pixel. Assumes nothing.
-use mathlib.Core.Path.{sym, subst}
-use mathlib.Core.List.{List, [], ◌∷◌}
-use Prim.Native.Nat.{ℕ, zero, suc, ◌*◌, ◌^◌, ◌≤◌}
-use native.Mathlib.Nat.{le_trans}
-use native.Mathlib.Omega.{arith}
+-- Bounds of lists of operands, of a derivative's coefficients, and of polynomials of degree 1 and 2 at a pixel. Assumes nothing.
+use Rattle.std.proofs.Common.{◌≡◌, ◌*◌, ◌^◌, ◌≤◌, ℕ, zero, suc, List, [], ◌∷◌, map, get_or, max, ℤ, pos, refl, arith, w64}
 use lib.Dec.{lit≤}
-use lib.ListN.{get_or, take}
-use lib.IntN.{ℤ, pos, ◌*ℤ◌}
-use mir.Syntax.{w64}
 use Rattle.integers.specs.Within.{◌within◌}
-use Rattle.integers.proofs.Bounds.{is_within, within_self, within_mono, within-+, within-*}
-use Rattle.integers.proofs.Operand.{Operand, known}
-use Rattle.element_sibson.specs.Cubic.{Power, r¹, s¹, r², rs, s², r³, r²s, rs², s³, by_r, by_s}
-use Rattle.element_cell.specs.Cell.{side, cell, pixel_cell, PixelInCell}
+use Rattle.integers.proofs.Bounds.{is_within, within_mono, within-+, within-*}
+use Rattle.integers.proofs.Operand.{Operand, known, literal, ◌⊠◌, read_within}
+use Rattle.element_sibson.specs.Cubic.{Power}
 use Rattle.element_cell.specs.Corners.{largest}
-use Rattle.element_cell.specs.Coefficients.{listed, halves, Sized}
-use Rattle.element_cell.specs.declared.Pixel.{Pixel}
+use Rattle.element_cell.specs.Coefficients.{Sized}
 use Rattle.element_cell.proofs.Listed.{sized_within}
-use Rattle.element_cell.proofs.Sides.{length_within, side_is}
 use Rattle.element_evaluation.specs.Needs.{EachWithin}
-use Rattle.element_evaluation.specs.LowDegree.{scaled_of, linear_at, quadratic_at}
+use Rattle.element_evaluation.specs.LowDegree.{linear_at, quadratic_at}
 
 -- ---- lists
 
@@ -34,54 +24,38 @@ infixr 5 ◌and◌
     at zero = h
     at (suc i) = k.each i
 
+-- ---- lists of operands
+
+-- what is read of them is what they are
+pub all_read : (xs : List Operand) → map (λ x. x.read) xs ≡ map (λ x. x.number) xs
+all_read [] = refl
+all_read (x ∷ xs) = λ i. x.reads i ∷ all_read xs i
+
+-- the largest of their bounds
+abbrev pub most : List Operand → ℕ
+most [] = 0
+most (x ∷ xs) = max x.bound (most xs)
+
+pub each_read : {N : ℕ} (xs : List Operand) → most xs ≤ N → EachWithin N (map (λ x. x.read) xs)
+each_read [] h = none
+each_read (x ∷ xs) h = within_mono (read_within x) (omega (arith, h)) and each_read xs (omega (arith, h))
+
 -- ---- derivatives
 
-abbrev S : ℕ
+abbrev pub S : ℕ
 S = 256 * largest
 
--- the coefficient of a power, as the machine reads it
+-- the coefficient of a power, as the machine reads it, and its double and treble
 abbrev pub k_at : {k : List ℤ} → Sized k → Power → Operand
 k_at h p = known w64 (sized_within h p) tt
 
-once : {z : ℤ} → z within S → z within (3 * S)
-once h = within_mono h (lit≤ tt)
+abbrev pub double : {k : List ℤ} → Sized k → Power → Operand
+double h p = literal (pos 2) ⊠ k_at h p
 
-times : {z : ℤ} (n : ℕ) → n ≤ 3 → z within S → (pos n *ℤ z) within (3 * S)
-times n m h = within-* (is_within (pos n) m) h
-
-pub by_r_each : {k : List ℤ} → Sized k → EachWithin (3 * S) (take 6 (listed (by_r (halves k))))
-unfolding by_r listed halves
-by_r_each h = once (sized_within h r¹) and times 2 (lit≤ tt) (sized_within h r²) and once (sized_within h rs) and times 3 (lit≤ tt) (sized_within h r³) and
-    times 2 (lit≤ tt) (sized_within h r²s) and once (sized_within h rs²) and none
-
-pub by_s_each : {k : List ℤ} → Sized k → EachWithin (3 * S) (take 6 (listed (by_s (halves k))))
-unfolding by_s listed halves
-by_s_each h = once (sized_within h s¹) and once (sized_within h rs) and times 2 (lit≤ tt) (sized_within h s²) and once (sized_within h r²s) and
-    times 2 (lit≤ tt) (sized_within h rs²) and times 3 (lit≤ tt) (sized_within h s³) and none
-
-double : {z : ℤ} → z within (3 * S) → (pos 2 *ℤ z) within (6 * S)
-double h = within-* (within_self (pos 2)) h
-
-pub by_rr_each : {k : List ℤ} → Sized k → EachWithin (6 * S) (take 3 (listed (by_r (by_r (halves k)))))
-unfolding by_r listed halves
-by_rr_each h = double (once (sized_within h r²)) and double (times 3 (lit≤ tt) (sized_within h r³)) and double (once (sized_within h r²s)) and none
-
-pub by_rs_each : {k : List ℤ} → Sized k → EachWithin (6 * S) (take 3 (listed (by_s (by_r (halves k)))))
-unfolding by_r by_s listed halves
-by_rs_each h = within_mono (sized_within h rs) (lit≤ tt) and double (once (sized_within h r²s)) and double (once (sized_within h rs²)) and none
-
-pub by_ss_each : {k : List ℤ} → Sized k → EachWithin (6 * S) (take 3 (listed (by_s (by_s (halves k)))))
-unfolding by_s listed halves
-by_ss_each h = double (once (sized_within h s²)) and double (once (sized_within h rs²)) and double (times 3 (lit≤ tt) (sized_within h s³)) and none
+abbrev pub treble : {k : List ℤ} → Sized k → Power → Operand
+treble h p = literal (pos 3) ⊠ k_at h p
 
 -- ---- at a pixel
-
-pub scaled_each : {p : Pixel} → PixelInCell p → EachWithin 4096 (scaled_of (pixel_cell p) p.a p.b)
-unfolding scaled_of cell
-scaled_each {p} i =
-    let w : pos (side p.width).number within 64 = length_within (subst (λ (l : ℕ). l ≤ 64) (sym (side_is i.width)) i.width.most) in
-    let h : pos (side p.height).number within 64 = length_within (subst (λ (l : ℕ). l ≤ 64) (sym (side_is i.height)) i.height.most) in
-    within-* w h and within-* (length_within (le_trans i.across i.width.most)) h and within-* (length_within (le_trans i.down i.height.most)) w and none
 
 pub linear_within : {c z : List ℤ} → EachWithin (6 * S) c → EachWithin 4096 z → linear_at c z within (2 ^ 56)
 unfolding linear_at

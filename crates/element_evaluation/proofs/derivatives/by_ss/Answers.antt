@@ -1,0 +1,30 @@
+-- `element_evaluation::derivatives::by_ss` meets its contract. Assumes nothing.
+use Rattle.std.proofs.Common.{ℤ, pos, List, [], ◌∷◌, w64}
+use lib.Dec.{lit≤}
+use Rattle.integers.proofs.Operand.{Operand, literal, stored, ◌⊠◌, asks}
+use Rattle.element_sibson.specs.Cubic.{s², rs², s³, by_s}
+use Rattle.element_cell.specs.Coefficients.{listed, halves, Sized}
+use Rattle.element_evaluation.proofs.Derived.{all_read, each_read, double, treble}
+use Rattle.element_evaluation.proofs.derivatives.by_ss.Goals as goal
+
+abbrev parts : {k : List ℤ} → Sized k → List Operand
+parts h = stored w64 (double h s²) tt ∷ stored w64 (double h rs²) tt ∷ stored w64 (literal (pos 2) ⊠ stored w64 (treble h s³) tt) tt ∷ []
+
+pub overflow_mul-result : goal.overflow_mul-result
+overflow_mul-result c = asks w64 (double c.k.invariant s²) tt
+
+pub overflow_mul-result-2 : goal.overflow_mul-result-2
+overflow_mul-result-2 c = asks w64 (double c.k.invariant rs²) tt
+
+pub overflow_mul-result-3 : goal.overflow_mul-result-3
+overflow_mul-result-3 c = asks w64 (treble c.k.invariant s³) tt
+
+pub overflow_mul-result-4 : goal.overflow_mul-result-4
+overflow_mul-result-4 c = asks w64 (literal (pos 2) ⊠ stored w64 (treble c.k.invariant s³) tt) tt
+
+pub invariant_of-result : goal.invariant_of-result
+invariant_of-result c = each_read (parts c.k.invariant) (lit≤ tt)
+
+pub returns : goal.returns
+unfolding by_s listed halves
+returns c = rw (← c.k.view_is) (all_read (parts c.k.invariant))
