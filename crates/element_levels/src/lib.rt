@@ -10,7 +10,7 @@ ghost use Rattle.element_levels.specs.Needs.{LevelFits, FitsAlong};
 use integers::Denominator;
 
 // Fills `count` slots of the row from index `at` on with the levels of a cubic along the row, from an offset on. Three additions lead from a pixel's value to
-// the next one's.
+// the next one's. The whole row is lent, not these slots alone: it is the row of which each turn is one step (`RowGrows`).
 pub fn fill_levels(
     row: &mut [i32],
     at: usize,
@@ -22,15 +22,14 @@ pub fn fill_levels(
     requires { FitsAlong cubic offset count d × (at + count ≤ length row.old) }
     ensures { row.new ≡ steps (starting_at at (λ k. round (at_offset cubic (offset + k)) (nat_abs d.value))) at count row.old }
 {
+    // of no slots nothing is asked, so the cubic may be too large for its differences
     if count == 0 {
         return;
     }
     let mut z = element_differences::differences(cubic, offset);
-    let mut k: usize = 0;
-    while k < count {
+    for k in 0..count {
         row[at + k] = rounded_level(z[0], d);
         z = element_differences::stepped(z);
-        k += 1;
     }
 }
 

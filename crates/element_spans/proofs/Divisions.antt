@@ -5,6 +5,8 @@ use mathlib.Core.Logic.{◌↔◌}
 use native.Mathlib.Decide.{dec_le}
 use native.Mathlib.Nat.{le_refl, le-div_iff_mul-le, suc-mul, add-mul}
 use native.Mathlib.Omega.{arith}
+use Rattle.std.specs.Int.{div_ceil}
+use Rattle.std.proofs.lemmas.Grind.{div_ceil_times}
 use Rattle.element_spans.specs.Span.{ceiling}
 
 module _ {a m d : ℕ} (positive : 0 < d) where
@@ -40,6 +42,10 @@ floor_is {m} {d} positive x l h =
 pub ceiling_is : {m d : ℕ} → 0 < d → (x : ℕ) → m ≤ x * d → x * d < m + d → x ≡ ceiling m d
 unfolding ceiling
 ceiling_is {m} {d} positive x l h = floor_is positive x (omega arith) (omega (arith, suc-mul x d))
+
+-- the library's quotient rounded up
+pub div_ceil_is : (m : ℕ) {d : ℕ} → 0 < d → div_ceil m d ≡ ceiling m d
+div_ceil_is m positive = let times = div_ceil_times m _ positive in ceiling_is positive (div_ceil m _) times.0 times.1
 
 module _ (m : ℕ) {d : ℕ} (positive : 0 < d) where
   pub floor_low : m / d * d ≤ m

@@ -7,3 +7,4 @@ mod UpperHalf
 pub mod Crossing
 pub mod Parted
 pub mod Cubics
+pub mod Filled

@@ -10,12 +10,12 @@ ghost use Rattle.integers.specs.Round.{round};
 ghost use Rattle.integers.specs.Ratio.{Denominates, Ratio};
 ghost use Rattle.integers.specs.Constants.{constants, InReach};
 
-// n / d rounded down.
+// n / d rounded down. Both are plain numbers here and below: callers have just computed them, and a type that holds `Ratio` would be made for one call.
 pub fn floor_div(n: i64, d: i64) -> i64
     requires { Ratio n d }
     ensures { result ≡ floor_div n (nat_abs d) }
 {
-    if n < 0 { -1 - (-1 - n) / d } else { n / d }
+    n.div_euclid(d)
 }
 
 // n / d rounded by the rule.
@@ -28,6 +28,7 @@ pub fn round(n: i64, d: i64) -> i64
 }
 
 // A denominator d with the constants for rounding many numerators over it: n / d is about n · scale · inverse / 2⁶⁴.
+// That they are its constants is no invariant of the type: for no slots `element_levels::fill_levels` takes any three numbers.
 #[derive(Clone, Copy)]
 pub struct Denominator {
     pub value: i64,
@@ -44,8 +45,8 @@ impl Denominator {
         let raised = d * scale;
         let value = below_38_bits(d);
         Denominator {
-            value: value,
-            scale: scale,
+            value,
+            scale,
             inverse: 4611686018427387904 / (raised / 4),
         }
     }

@@ -2,10 +2,8 @@
 // No contract speaks of what is read and written. Which text comes next, and that the texts are all that is to be printed, is proved in `program_listing`.
 #![tactic(auto)]
 
-ghost use Rattle.std.specs.Prelude.{◌≤◌, length};
-
+use bounded_input::read_full;
 use program_listing::{INPUT_ROOM, ROW_ROOM, next_text};
-use std::io::Read;
 
 // Reads, then writes each text in turn, until one is empty or a write fails.
 fn main(rt: HostRuntime) {
@@ -25,19 +23,4 @@ fn main(rt: HostRuntime) {
         }
         k += 1;
     }
-}
-
-// Reads until `to` is full, the input ends or a read fails, and answers how many bytes stand at the start of `to`.
-// A read that fails counts as the end of the input.
-fn read_full(input: &mut impl Read, to: &mut [u8]) -> usize
-    ensures { result ≤ length to.new }
-{
-    let mut done: usize = 0;
-    while done < to.len() {
-        match input.read(&mut to[done..]) {
-            Ok(0) | Err(_) => return done,
-            Ok(n) => done += n,
-        }
-    }
-    done
 }

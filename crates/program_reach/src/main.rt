@@ -3,10 +3,8 @@
 // No contract speaks of what is read and written. Which line is to be printed is proved in `program_reach_line`.
 #![tactic(auto)]
 
-ghost use Rattle.std.specs.Prelude.{◌≤◌, length};
-
+use bounded_input::read_full;
 use program_reach_line::{INPUT_ROOM, LINE_ROOM, reach_text};
-use std::io::Read;
 
 // A write that fails leaves the line out.
 fn main(rt: HostRuntime) {
@@ -16,19 +14,4 @@ fn main(rt: HostRuntime) {
     let mut out = [0u8; LINE_ROOM];
     let end = reach_text(input, &mut out);
     let _ = rt.write_all(&out[..end]);
-}
-
-// Reads until `to` is full, the input ends or a read fails, and answers how many bytes stand at the start of `to`.
-// A read that fails counts as the end of the input.
-fn read_full(input: &mut impl Read, to: &mut [u8]) -> usize
-    ensures { result ≤ length to.new }
-{
-    let mut done: usize = 0;
-    while done < to.len() {
-        match input.read(&mut to[done..]) {
-            Ok(0) | Err(_) => return done,
-            Ok(n) => done += n,
-        }
-    }
-    done
 }

@@ -1,26 +1,22 @@
 -- What is printed for an answer that the code has, and that it fits. Assumes nothing.
-use Prim.Native.Nat.{ℕ, ◌≤◌}
-use mathlib.Core.Path.{◌≡◌, refl, sym, ◌∙◌, ap}
-use mathlib.Core.List.{List, [], ◌∷◌}
-use native.Mathlib.Decide.{ℕ_discrete}
+use Rattle.std.proofs.Common.{◌≡◌, ℕ, ◌≤◌, pos, List, [], ◌∷◌, length, Ok, Err, refl, arith, lit≤, lit<, length-append}
 use native.Mathlib.Nat.{lt_of_le_of_lt}
-use native.Mathlib.Omega.{arith}
 use borrow.Author.Tests.{ne_eqb}
-use lib.Dec.{lit≤, lit<}
-use lib.IntN.{pos}
-use lib.ListN.{length, length-append}
-use Rattle.sheet_reach.specs.Reach.{told, reach_refusal, reach_answer}
-use Rattle.sheet_reach.specs.declared.Reach.TheVariants.{Lines, Refused}
-use Rattle.sheet_reach.proofs.Refused.{lines_answer, refused_answer}
+use Rattle.sheet_calls.specs.declared.refusal.Refusal.{Refusal}
+use Rattle.sheet_calls.specs.Refused.{number}
+use Rattle.sheet_calls.proofs.Refused.{number-not_zero}
+use Rattle.sheet_reach.specs.declared.OuterLines.{OuterLines}
+use Rattle.sheet_reach.specs.Reach.{told, reach_answer}
 use Rattle.program_text.specs.Text.{blank, newline, field, line, refused_line}
 use Rattle.program_text.proofs.Lengths.{field_length}
 use Rattle.program_reach_line.specs.ReachLine.{printed, line_room}
 
 -- ---- four positions
 
-pub lines_printed : (a b c d : ℕ) (input : List ℕ) → told (Lines a b c d) ≡ reach_answer input → printed input ≡ line (pos a ∷ pos b ∷ pos c ∷ pos d ∷ [])
+pub lines_printed : (l : OuterLines) (input : List ℕ) → told (Ok l) ≡ reach_answer input
+    → printed input ≡ line (pos l.left ∷ pos l.top ∷ pos l.right ∷ pos l.bottom ∷ [])
 unfolding told printed
-lines_printed a b c d input e = rw (← e) refl
+lines_printed l input e = rw (← e) refl
 
 -- each of 32 bits
 abbrev Position : ℕ → Type 0
@@ -36,15 +32,6 @@ lines_fit a b c d e f g h =
 
 -- ---- a refusal
 
-module _ (input : List ℕ) (n : ℕ) (e : told (Refused n) ≡ reach_answer input) where
-  -- 0 refuses nothing: it has positions
-  refuses : ¬ (n ≡ 0)
-  unfolding told
-  refuses z = elim (ℕ_discrete (reach_refusal input) 0) [
-    | yes a ↦ absurd (omega (arith, ap (λ r. length r.positions) (e ∙ lines_answer input a)))
-    | no h ↦ h (sym (ap (λ r. r.number) (e ∙ refused_answer input refl h)) ∙ z)
-  ]
-
-  pub refused_printed : printed input ≡ refused_line n
-  unfolding told printed
-  refused_printed = rw (← e, ne_eqb n 0 refuses) refl
+pub refused_printed : (e : Refusal) (input : List ℕ) → told (Err e) ≡ reach_answer input → printed input ≡ refused_line (number e)
+unfolding told printed
+refused_printed e input h = rw (← h, ne_eqb (number e) 0 (number-not_zero e)) refl

@@ -7,8 +7,6 @@ ghost use Rattle.std.specs.Prelude.{◌≡◌, ◌≤◌, length};
 ghost use Rattle.sheet_words.specs.Word.{replaced};
 ghost use Rattle.program_reach_line.specs.ReachLine.{printed, line_room};
 
-use sheet_reach::Reach;
-
 // How many bytes of the input are read at most: the longest sheet has 25,618, a column and a row follow, and one more tells a longer input.
 pub const INPUT_ROOM: usize = 25621;
 
@@ -21,12 +19,16 @@ pub fn reach_text(input: &[u8], out: &mut [u8]) -> usize
     ensures count { result ≡ length (printed input.now) }
     ensures text { out.new ≡ replaced out.old 0 (printed input.now) }
 {
-    let answer = sheet_reaching::reach(input);
-    match answer {
-        Reach::Lines(left, top, right, bottom) => {
-            let numbers = [left as i64, top as i64, right as i64, bottom as i64];
+    match sheet_reaching::reach(input) {
+        Ok(lines) => {
+            let numbers = [
+                i64::from(lines.left),
+                i64::from(lines.top),
+                i64::from(lines.right),
+                i64::from(lines.bottom),
+            ];
             program_text::line(out, 0, &numbers)
         }
-        Reach::Refused(n) => program_text::refused(out, n),
+        Err(refusal) => program_text::refused(out, refusal.number()),
     }
 }

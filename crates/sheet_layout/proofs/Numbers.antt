@@ -6,12 +6,14 @@ use mathlib.Core.Bool.{true}
 use native.Mathlib.Nat.{add_assoc}
 use native.Mathlib.Omega.{arith}
 use lib.ListN.{length}
+use lib.Dec.{lit<}
 use lib.IntN.{ℤ}
 use mir.Syntax.{w32}
 use mir.Val.{SFits, to_z, of_z}
 use mir.ValLaws.{to_z-of_z}
 use Rattle.integers.specs.Within.{◌within◌}
 use Rattle.integers.proofs.Bounds.{within_mono}
+use Rattle.integers.proofs.Operand.{fits}
 use Rattle.sheet_words.specs.Word.{bits_of, bytes_of, replaced}
 use Rattle.sheet_words.proofs.Replaced.{replaced_on}
 use Rattle.sheet_layout.specs.Format.{Node, node, node_size, height_size, slope_bytes, encoded, slope_in, node_in}
@@ -26,6 +28,10 @@ fit h x y e =
 
 pub slope_fits : (z : ℤ) → slope_in z ≡ true → z within 32767
 slope_fits z e = within_mono ((slope_in_lem z).0 e) (omega arith)
+
+-- so 32 bits hold them
+pub kept : (h x y : ℤ) → node_in (node h x y) ≡ true → (SFits w32 h) × (SFits w32 x) × (SFits w32 y)
+kept h x y e = let (a, b, c) = fit h x y e in (fits a (lit< tt), fits b (lit< tt), fits c (lit< tt))
 
 -- ---- what the code hands on: u is v as the machine reads it back
 

@@ -5,6 +5,7 @@ pub mod axis;
 pub mod gathering;
 pub mod header;
 pub mod neighbours;
+pub mod node;
 pub mod ranges;
 pub mod theorems;
 
@@ -14,6 +15,7 @@ ghost use Rattle.sheet_words.specs.Word.{replaced};
 ghost use Rattle.sheet_layout.specs.Format.{header_size, columns, rows, y_lines_offset, line_from, node, encoded, node_size, height_size, slope_bytes, slope_in, node_in, nodes_offset, node_offset, stated_size, height_at, slope_x_at, slope_y_at};
 
 use header::{HEADER_SIZE, columns, rows};
+use node::Node;
 use sheet_words::{bits_of, put_word, signed_word, word};
 
 // Where the vertical lines' positions start: behind the header.
@@ -91,14 +93,14 @@ pub fn node_numbers(sheet: &[u8], column: usize, row: usize) -> [i64; 3]
     ]
 }
 
-// Writes a node's numbers, a height in steps and two slopes, to the bytes at index `at`.
-pub fn put_node(sheet: &mut [u8], at: usize, height: i32, x_slope: i32, y_slope: i32)
+// Writes a node's numbers to the bytes at index `at`.
+pub fn put_node(sheet: &mut [u8], at: usize, numbers: Node)
     requires node_size_in_bounds { at + node_size ≤ length sheet.old }
-    requires y_slope_value { node_in (node height x_slope y_slope) ≡ true }
-    ensures { sheet.new ≡ replaced sheet.old at (encoded (node height x_slope y_slope)) }
+    requires y_slope_value { node_in (node numbers.height numbers.x_slope numbers.y_slope) ≡ true }
+    ensures { sheet.new ≡ replaced sheet.old at (encoded (node numbers.height numbers.x_slope numbers.y_slope)) }
 {
-    put_word(sheet, at, bits_of(height));
-    put_slopes(sheet, at, x_slope, y_slope);
+    put_word(sheet, at, bits_of(numbers.height));
+    put_slopes(sheet, at, numbers.x_slope, numbers.y_slope);
 }
 
 // Writes two slopes to the node whose bytes start at index `at`, and leaves its height.

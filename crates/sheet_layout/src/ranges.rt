@@ -1,8 +1,8 @@
-// The ranges of a node's numbers: whether all of a sheet's nodes are in range, and whether new numbers are. Heights and slopes have the same range.
+// The range of a node's numbers: whether all of a sheet's nodes are in range, and whether a new number is. Heights and slopes have the same range.
 ghost use Rattle.std.specs.Prelude.{◌≡◌, not, ◌+◌, ◌*◌, ◌≤◌, ◌<◌, length};
 ghost use Rattle.sheet_words.specs.Word.{word_at, signed};
 ghost use Rattle.sheet_layout.specs.Some.{some};
-ghost use Rattle.sheet_layout.specs.Format.{node, slope_in, node_in, stated_size, some_node_out};
+ghost use Rattle.sheet_layout.specs.Format.{slope_in, stated_size, some_node_out};
 
 use super::gathering::some;
 use super::{node_count, nodes_offset};
@@ -32,13 +32,7 @@ pub fn word_in_range(bits: u32) -> bool
     (bits <= 4095) | (61441 <= bits)
 }
 
-// Whether a node's new numbers are in range.
-pub fn node_in_range(height: i32, x_slope: i32, y_slope: i32) -> bool
-    ensures { result ≡ node_in (node height x_slope y_slope) }
-{
-    in_range(height) & in_range(x_slope) & in_range(y_slope)
-}
-
+// Whether a node's new number is in range.
 pub fn in_range(x: i32) -> bool
     ensures { result ≡ slope_in x }
 {

@@ -10,7 +10,7 @@ ghost use Rattle.sheet_calls.specs.Calls.{looked_up, stretch, Part, with_node};
 use sheet_calls::refusal::Refusal;
 use sheet_checking::sheet_refusal;
 use sheet_layout::header::{columns, rows};
-use sheet_layout::ranges::node_in_range;
+use sheet_layout::node::Node;
 use sheet_layout::{NODE_SIZE, node_offset, put_node};
 
 // The node's bytes, where they lie in the sheet; or, refused, none from its start.
@@ -47,11 +47,16 @@ pub fn set_node(
     ensures sheet { sheet.new ≡ with_node sheet.old column row (node height x_slope y_slope) }
 {
     node_refusal(sheet, column, row)?;
-    if wrong_numbers(height, x_slope, y_slope) {
+    let numbers = Node {
+        height,
+        x_slope,
+        y_slope,
+    };
+    if wrong_numbers(numbers) {
         return Err(Refusal::WrongNumbers);
     }
     let at = offset(sheet, column, row);
-    put_node(sheet, at, height, x_slope, y_slope);
+    put_node(sheet, at, numbers);
     Ok(())
 }
 
@@ -80,8 +85,8 @@ fn offset(sheet: &[u8], column: u32, row: u32) -> usize
     node_offset(sheet, column as usize, row as usize)
 }
 
-fn wrong_numbers(height: i32, x_slope: i32, y_slope: i32) -> bool
-    ensures { result ≡ wrong_numbers (node height x_slope y_slope) }
+fn wrong_numbers(numbers: Node) -> bool
+    ensures { result ≡ wrong_numbers (node numbers.height numbers.x_slope numbers.y_slope) }
 {
-    !node_in_range(height, x_slope, y_slope)
+    !numbers.in_range()
 }

@@ -1,4 +1,2 @@
-mod Copied
-mod Lines
 mod Joined
 mod Answers

@@ -1,85 +1,74 @@
 // Two sheets pooled into a target: all sums are looked at before the first byte is written.
 #![tactic(auto)]
 
-ghost use Rattle.std.specs.Prelude.{◌≡◌, not, ◌+◌, ◌*◌, ◌≤◌, eqb, length, take};
+ghost use Rattle.std.specs.Prelude.{◌≡◌, ◌≤◌, length, take};
 ghost use Rattle.sheet_words.specs.Word.{replaced};
-ghost use Rattle.sheet_layout.specs.Some.{some};
-ghost use Rattle.sheet_layout.specs.Format.{header_size, line_from, nodes_offset};
-ghost use Rattle.sheet_calls.specs.Refusals.{Accepted};
-ghost use Rattle.sheet_pool.specs.Pool.{other_lines, pool_refusal, with_pool};
+ghost use Rattle.sheet_layout.specs.Axis.{lines_of, line_of};
+ghost use Rattle.sheet_layout.specs.Format.{header_size, nodes_offset};
+ghost use Rattle.sheet_calls.specs.Refused.{refusal_number};
+ghost use Rattle.sheet_pool.specs.Pool.{other_along, other_lines, pool_refusal, with_pool};
 
-use sheet_checking::sheet_refusal;
-use sheet_layout::header::{columns, rows};
-use sheet_layout::{X_LINES_OFFSET, line_from, nodes_offset, y_lines_offset};
+use sheet_calls::accepted::Sheet;
+use sheet_calls::refusal::Refusal;
+use sheet_checking::accepted;
+use sheet_layout::axis::Axis;
+use sheet_layout::gathering::some;
+use sheet_layout::nodes_offset;
 use sheet_sums::{put_sums, some_sum_out};
 
-// Writes the pool of the two sheets to the target and answers 0; or, refused, answers the number and leaves the target as it was.
-pub fn pool(first: &[u8], second: &[u8], target: &mut [u8]) -> u32
-    ensures answer { result ≡ pool_refusal first.now second.now (length target.old) }
+// Writes the pool of the two sheets to the target; or, refused, leaves the target as it was.
+pub fn pool(first: &[u8], second: &[u8], target: &mut [u8]) -> Result<(), Refusal>
+    ensures answer { refusal_number result ≡ pool_refusal first.now second.now (length target.old) }
     ensures target { target.new ≡ with_pool first.now second.now target.old }
 {
-    let refusal = pool_refusal(first, second, target.len());
-    if refusal != 0 {
-        return refusal;
-    }
+    pool_refusal(first, second, target.len())?;
     copy_lines(first, target);
     put_sums(first, second, target);
-    0
+    Ok(())
 }
 
-// The number that refuses pooling into a target of this size, or 0.
-fn pool_refusal(first: &[u8], second: &[u8], size: usize) -> u32
-    ensures { result ≡ pool_refusal first.now second.now size }
+// Ok where the two sheets can be pooled into a target of this size, else the first condition that holds.
+#[tactic(auto, using(crate::proofs::Answers::both_accepted), unfolding(sheet_pool::specs::Pool::other_target))]
+fn pool_refusal(first: &[u8], second: &[u8], size: usize) -> Result<(), Refusal>
+    ensures { refusal_number result ≡ pool_refusal first.now second.now size }
 {
-    let of_first = sheet_refusal(first);
-    if of_first != 0 {
-        return of_first;
-    }
-    if sheet_refusal(second) != 0 {
-        return 15;
-    }
-    if other_lines(first, second) {
-        return 16;
+    let one = accepted(first)?;
+    let Ok(other) = accepted(second) else {
+        return Err(Refusal::SecondRefused);
+    };
+    if other_lines(one, other) {
+        return Err(Refusal::OtherLines);
     }
     if size != first.len() {
-        return 17;
+        return Err(Refusal::OtherSize);
     }
     if some_sum_out(first, second) {
-        return 11;
+        return Err(Refusal::WrongNumbers);
     }
-    0
+    Ok(())
 }
 
 // Whether the sheets' lines differ, in number or in a position.
-fn other_lines(first: &[u8], second: &[u8]) -> bool
-    requires { Accepted first.now × Accepted second.now }
-    ensures { result ≡ other_lines first.now second.now }
+#[tactic(auto, unfolding(sheet_pool::specs::Pool::other_lines))]
+fn other_lines(first: Sheet<'_>, second: Sheet<'_>) -> bool
+    ensures { result ≡ other_lines first.entry.bytes.now second.entry.bytes.now }
 {
-    let vertical = columns(first);
-    if columns(second) != vertical {
-        return true;
-    }
-    let horizontal = rows(first);
-    if rows(second) != horizontal {
-        return true;
-    }
-    let across = other_positions(first, second, X_LINES_OFFSET, vertical);
-    let down = other_positions(first, second, y_lines_offset(first), horizontal);
-    across | down
+    other_along(first, second, Axis::X) || other_along(first, second, Axis::Y)
 }
 
-// Whether one of an axis's lines, from index `start` on, lies elsewhere in the second sheet.
-fn other_positions(first: &[u8], second: &[u8], start: usize, count: usize) -> bool
-    requires { (start + 2 * count ≤ length first.now) × (start + 2 * count ≤ length second.now) }
-    ensures { result ≡ some (λ k. not (eqb (line_from second.now start k) (line_from first.now start k))) count }
+// The same of the lines along an axis.
+#[tactic(auto, using(sheet_calls::proofs::WellFormed::header_there, sheet_calls::proofs::WellFormed::lines_there), unfolding(sheet_pool::specs::Pool::other_along))]
+fn other_along(first: Sheet<'_>, second: Sheet<'_>, axis: Axis) -> bool
+    ensures { let a = first.entry.bytes.now in let b = second.entry.bytes.now in result ≡ other_along (line_of axis a) (lines_of axis a) (line_of axis b) (lines_of axis b) }
 {
-    let mut found = false;
-    let mut k = 0;
-    while k < count {
-        found = found | (line_from(second, start, k) != line_from(first, start, k));
-        k += 1;
+    let count = axis.lines(first.bytes);
+    if axis.lines(second.bytes) != count {
+        return true;
     }
-    found
+    some(
+        count,
+        |k| axis.line(second.bytes, k) != axis.line(first.bytes, k),
+    )
 }
 
 // Copies the header and the lines to the target's start.
@@ -88,9 +77,5 @@ fn copy_lines(first: &[u8], target: &mut [u8])
     ensures { target.new ≡ replaced target.old 0 (take (nodes_offset first.now) first.now) }
 {
     let count = nodes_offset(first);
-    let mut k = 0;
-    while k < count {
-        target[k] = first[k];
-        k += 1;
-    }
+    target[..count].copy_from_slice(&first[..count]);
 }

@@ -1,3 +1,4 @@
+pub mod Along
 pub mod Gaps
 pub mod Rises
 pub mod Quotients

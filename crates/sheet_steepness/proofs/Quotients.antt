@@ -1,17 +1,15 @@
 -- A stiffened rise over its divisor as the code rounds it; and a quotient from −4,095 to 4,095, which is in range when it is rounded. Assumes nothing.
-use Prim.Native.Nat.{ℕ, ◌^◌, ◌<◌}
-use mathlib.Core.Path.{◌≡◌, ◌∙◌, subst, subst⁻¹}
-use mathlib.Core.Bool.{true}
-use lib.Dec.{ltb→lt, lit≤}
-use lib.IntN.{ℤ, pos, negsuc, nat_abs, ◌*ℤ◌}
-use lib.Signed.{◌≤ℤ◌, ◌<ℤ◌}
-use mir.Syntax.{w64}
-use mir.Val.{to_z, of_z}
+use Rattle.std.proofs.Common.{◌≡◌, ℕ, ◌^◌, ◌<◌, true, true≢false, ℤ, pos, negsuc, nat_abs, ◌*ℤ◌, ◌≤ℤ◌, ◌<ℤ◌, sym, ◌∙◌, ap, subst, w64, to_z, of_z, is_le, int_cmp}
+use Rattle.std.proofs.Math.Path.{subst₂}
+use Rattle.std.specs.Cmp.{int_ranks}
+use Rattle.std.proofs.lemmas.Cmp.{by_ranked}
+use lib.Dec.{ltb→lt}
 use Rattle.integers.specs.Within.{◌within◌}
 use Rattle.integers.specs.Round.{round}
-use Rattle.integers.specs.Ratio.{Denominates, Ratio}
-use Rattle.integers.proofs.Bounds.{within_mono, within_of_range}
-use Rattle.integers.proofs.Operand.{known, read_within}
+use Rattle.integers.specs.Ratio.{Denominates}
+use Rattle.integers.proofs.Bounds.{within_of_range}
+use Rattle.integers.proofs.Operand.{known}
+use Rattle.integers.proofs.Order.{<ℤ→≤ℤ, ≤ℤ_of_eq}
 use Rattle.integers.proofs.Rounding.{rounding_laws}
 use Rattle.sheet_layout.specs.Format.{slope_in}
 use Rattle.sheet_layout.proofs.NodeRange.{slope_in_lem}
@@ -25,19 +23,12 @@ pub in_range_rounded : (n d : ℤ) → pos 0 <ℤ d → (negsuc 4094 *ℤ d) ≤
 in_range_rounded n (pos d) p low high = gentle n d (ltb→lt 0 d p.lt) low high
 in_range_rounded n (negsuc d) p low high = absurd p.lt
 
--- ---- r and g are a stiffened rise and its divisor as the code has them, z and d what its contracts say that they are
+-- what a test of two numbers says that the code has as a and b
+pub at_most : {a b x y : ℤ} → a ≡ x → b ≡ y → is_le (int_cmp a b) ≡ true → x ≤ℤ y
+at_most {a} {b} e f h = subst₂ ◌≤ℤ◌ e f
+    (by_ranked (a <ℤ b) (a ≡ b) (b <ℤ a) (int_cmp a b) (int_ranks a b) (λ _ l. <ℤ→≤ℤ l) (λ _ q. ≤ℤ_of_eq q) (λ g _. absurd (true≢false (sym h ∙ ap is_le g))))
 
-module _ {r z g d : ℤ} (x : (r ≡ z) × (r within (2 ^ 28))) (y : (g ≡ d) × Denominates g × (g within 8192)) where
-  same_divisor : to_z w64 (of_z w64 g) ≡ g
-  same_divisor = (known w64 y.2 tt).reads
-
-  -- what the code hands on is what the machine reads back
-  pub handed_on : (to_z w64 (of_z w64 r) within (2 ^ 28)) × Denominates (to_z w64 (of_z w64 g)) × (to_z w64 (of_z w64 g) within 8192)
-  handed_on = (read_within (known w64 x.1 tt), subst⁻¹ Denominates same_divisor y.1, read_within (known w64 y.2 tt))
-
-  -- what `round` asks, and what it rounds
-  pub ratio : Ratio (to_z w64 (of_z w64 r)) (to_z w64 (of_z w64 g))
-  ratio = record { numerator = within_mono handed_on.0 (lit≤ tt); denominator = handed_on.1 }
-
-  pub quotient_is : round (to_z w64 (of_z w64 r)) (nat_abs (to_z w64 (of_z w64 g))) ≡ round z (nat_abs d)
-  quotient_is = λ i. round (((known w64 x.1 tt).reads ∙ x.0) i) (nat_abs ((same_divisor ∙ y.0) i))
+-- r and g are a stiffened rise and its divisor as the code has them, z and d what its contracts say that they are
+pub quotient_is : {r z g d : ℤ} → (r ≡ z) × (r within (2 ^ 28)) → (g ≡ d) × Denominates g × (g within 8192)
+    → round (to_z w64 (of_z w64 r)) (nat_abs (to_z w64 (of_z w64 g))) ≡ round z (nat_abs d)
+quotient_is x y = λ i. round (((known w64 x.1 tt).reads ∙ x.0) i) (nat_abs (((known w64 y.2 tt).reads ∙ y.0) i))

@@ -5,14 +5,14 @@ use mathlib.Core.List.{List, [], ◌∷◌, ◌++◌}
 use native.Mathlib.Decide.{dec_lt}
 use native.Mathlib.Numerals.{add-one}
 use native.Mathlib.Omega.{arith}
-use lib.ListN.{length, take, drop, set, get_or-append}
-use lib.Seq.{sets-eq, drop-cons, get_or-append-add}
-use Rattle.sheet_words.specs.Word.{byte_at, word_at, bytes_of, replaced, Bytes}
+use lib.ListN.{length, take, drop, get_or-append}
+use lib.Seq.{drop-cons, get_or-append-add}
+use Rattle.sheet_words.specs.Word.{byte_at, word_at, bytes_of, Bytes}
 
--- two stores are the two bytes anew
-pub two_stores : (s : List ℕ) (i w : ℕ) → i + 1 < length s → set (set s i (w % 256)) (i + 1) (w / 256) ≡ replaced s i (bytes_of w)
+-- the bytes that the library gives of a number of 16 bits
+pub two_bytes : (w : ℕ) → w < 65536 → w % 256 ∷ w / 256 % 256 ∷ [] ≡ bytes_of w
 unfolding bytes_of
-two_stores s i w h = rw (add-one i) (sets-eq (w % 256 ∷ w / 256 ∷ []) s i (omega (arith, h)))
+two_bytes w h = let high : w / 256 % 256 ≡ w / 256 = omega (arith, h) in λ t. (w % 256) ∷ high t ∷ []
 
 pub word_bytes_lem : (w : ℕ) → word_at (bytes_of w) 0 ≡ w
 unfolding bytes_of

@@ -7,6 +7,9 @@ use native.Mathlib.Decide.{dec_lt}
 use native.Mathlib.Omega.{arith}
 use lib.ListN.{length, take, drop, length-append, length-take, length-drop, take-append-drop, get_or-eq_default}
 use lib.Seq.{length-take-le, take_at, drop_at, get_or-take, get_or-drop, drop-drop, take-add}
+use borrow.Rule.Slice.PartMut.{put_mid}
+use Rattle.std.proofs.lemmas.Slice.{put_mid-paste}
+use Rattle.std.proofs.lemmas.List.Edits.{paste_all}
 use Rattle.sheet_words.specs.Word.{byte_at, word_at, replaced, Bytes}
 use Rattle.sheet_words.proofs.Bytes.{bytes_append}
 
@@ -43,6 +46,11 @@ byte_behind s n k h = get_or-drop n s (k - n) 0 ∙ ap (byte_at s) (omega arith)
 
 pub replaced_bytes : (s : List ℕ) (i : ℕ) (b : List ℕ) → Bytes s → Bytes b → Bytes (replaced s i b)
 replaced_bytes s i b h k = bytes_append (take i s ++ b) _ (bytes_append (take i s) b (stretch_bytes s 0 i h) k) (rest_bytes s (i + length b) h)
+
+-- what a write to the part of k bytes from index i on leaves
+pub put_replaced : (s : List ℕ) (i k : ℕ) {a b : List ℕ} → a ≡ b → length b ≡ k → put_mid i k s a ≡ replaced s i b
+put_replaced s i k {a} {b} e h =
+    put_mid-paste i k s a b (length b) e h refl ∙ paste_all s i b (length b) refl ∙ sym (append_assoc (take i s) b (drop (i + length b) s))
 
 -- what is there changes nothing
 pub replaced_same : (s : List ℕ) (i n : ℕ) → i + n ≤ length s → replaced s i (take n (drop i s)) ≡ s

@@ -1,51 +1,30 @@
 -- Signed numbers of 16 bits and their bits. Assumes nothing.
-use Prim.Native.Nat.{ℕ, suc, ◌+◌, ◌-◌, ◌%◌, ◌≤◌, ◌<◌}
+use Prim.Native.Nat.{ℕ, suc, ◌-◌, ◌≤◌, ◌<◌}
 use mathlib.Core.Path.{◌≡◌, refl, ap}
-use native.Mathlib.Decide.{dec_le}
+use mathlib.Core.Bool.{cond}
 use native.Mathlib.Omega.{arith}
-use lib.IntN.{ℤ, pos, negsuc, nat_abs, ◌+ℤ◌, ◌-ℤ◌}
+use lib.IntN.{ℤ, pos, negsuc, ◌+ℤ◌}
 use lib.Dec.{ltb, leb→le, ltb→lt, nltb→le}
-use lib.Signed.{◌≤ℤ◌, ◌<ℤ◌}
+use lib.Signed.{◌≤ℤ◌}
+use mir.Syntax.{w16}
+use mir.Val.{to_z, of_z}
 use borrow.Author.Tests.{lt-ltb, le-ltb}
 use Rattle.integers.specs.Within.{◌within◌}
-use Rattle.integers.proofs.Order.{subℕ_pos, subℕ_neg, pos_nonneg, cond_ind}
+use Rattle.integers.proofs.Order.{subℕ_pos, cond_ind}
 use Rattle.sheet_words.specs.Word.{signed, bits_of}
 
--- ---- what `bits_of` asks and gives: a negative number has 65,536 added
+-- ---- the bits of a number within 32,767
 
 pub bits_small : {z : ℤ} → z within 32767 → bits_of z < 65536
 unfolding bits_of
 bits_small {z = pos n} w = omega (arith, w.bound)
 bits_small {z = negsuc n} w = omega arith
 
-pub record Bits (z : ℤ) (n : ℕ) : Type 0 where
-  pub sign : pos 0 ≤ℤ z
-  pub value : nat_abs z ≡ n
-  pub small : n < 65536
+-- ---- the library's reading of 16 bits: those from 32,768 on have 65,536 taken away
 
-pub negative : (z : ℤ) → z within 32767 → z <ℤ pos 0 → Bits (z +ℤ pos 65536) (bits_of z)
-unfolding bits_of
-negative (pos n) w h = let k : n < 0 = ltb→lt n 0 h.lt in absurd (omega arith)
-negative (negsuc n) w h =
-    let e : negsuc n +ℤ pos 65536 ≡ pos (65535 - n) = subℕ_pos 65536 (suc n) (65535 - n) (omega (arith, w.bound)) in
-    record { sign = rw e (pos_nonneg _); value = rw e refl; small = bits_small w }
-
-pub natural : (z : ℤ) → z within 32767 → pos 0 ≤ℤ z → Bits z (bits_of z)
-unfolding bits_of
-natural (pos n) w h = record { sign = h; value = refl; small = bits_small w }
-natural (negsuc n) w h = absurd h.le
-
--- ---- what `signed_word` gives: bits from 32,768 on have 65,536 taken away
-
-pub raised_small : (w : ℕ) → (w + 32768) % 65536 ≤ 65535
-raised_small w = omega arith
-
-pub signed_raised : (w : ℕ) → w < 65536 → pos ((w + 32768) % 65536) -ℤ pos 32768 ≡ signed w
+pub reads_signed : (w : ℕ) → to_z w16 w ≡ signed w
 unfolding signed
-signed_raised w k = elim (dec_le 32768 w) [
-  | yes h ↦ rw (le-ltb w 32768 h) (subℕ_neg ((w + 32768) % 65536) 32768 (65535 - w) (omega arith))
-  | no h ↦ let l : w < 32768 = omega arith in rw (lt-ltb w 32768 l) (subℕ_pos ((w + 32768) % 65536) 32768 w (omega arith))
-]
+reads_signed w = let e : 65536 - suc w ≡ 65535 - w = omega arith in ap (λ m. cond (ltb w 32768) (pos w) (negsuc m)) e
 
 pub signed_natural : (w : ℕ) → w < 32768 → signed w ≡ pos w
 unfolding signed
@@ -74,3 +53,10 @@ signed_bits_lem (negsuc n) a b =
 pub bits_signed_lem : (w : ℕ) → w < 65536 → bits_of (signed w) ≡ w
 unfolding signed bits_of
 bits_signed_lem w h = cond_ind (ltb w 32768) (pos w) (negsuc (65535 - w)) (λ z. bits_of z ≡ w) (λ t. refl) (λ t. omega (arith, h))
+
+-- ---- the library's bits of a number
+
+pub writes_bits : (z : ℤ) → of_z w16 z ≡ bits_of z
+unfolding bits_of
+writes_bits (pos n) = refl
+writes_bits (negsuc n) = omega arith

@@ -1,13 +1,13 @@
 -- The two axes of a sheet; those of an accepted one. Assumes nothing.
-use Prim.Native.Nat.{ℕ, ◌-◌, ◌≤◌}
+use Prim.Native.Nat.{ℕ, ◌+◌, ◌*◌, ◌-◌, ◌≤◌}
 use mathlib.Core.Path.{◌≡◌, refl, sym}
 use mathlib.Core.Bool.{◌||◌, or_assoc}
 use mathlib.Core.List.{List}
 use native.Mathlib.Omega.{arith}
 use lib.Dec.{ltb}
 use lib.ListN.{length}
-use Rattle.sheet_layout.specs.Format.{header_size, columns, rows, line_from, x_lines_offset, y_lines_offset, nodes_offset, line_x, line_y}
-use Rattle.sheet_layout.specs.Axis.{lines_of, line_of}
+use Rattle.sheet_layout.specs.Format.{columns, rows, line_from, x_lines_offset, y_lines_offset, nodes_offset, line_x, line_y}
+use Rattle.sheet_layout.specs.Axis.{start_of, lines_of, line_of}
 use Rattle.sheet_layout.specs.declared.axis.Axis as layout
 use Rattle.sheet_calls.specs.Refusals.{outside, Accepted}
 use Rattle.sheet_calls.specs.WellFormed.{Inside, Rising}
@@ -18,7 +18,7 @@ use Rattle.element_cell.specs.declared.Pixel.{Pixel}
 use Rattle.surface_of_sheet.specs.Place.{cell_of, cells_along, column_at, row_at, place}
 use Rattle.surface_of_sheet.proofs.Cells.{gap_side, sound}
 use Rattle.surface_places.specs.Found.{Mesh, Between, CellTouches, off_axis, cells_of, found, in_cell, pixel_in, holding}
-use Rattle.surface_places.proofs.Search.{highest_holds}
+use Rattle.surface_places.proofs.Touching.{highest_holds}
 
 -- a pixel lies outside the mesh where it is off one of the axes
 pub off_either : (s : List ℕ) (x y : ℕ) → off_axis (line_from s x_lines_offset) (columns s) x || off_axis (line_from s (y_lines_offset s)) (rows s) y ≡ outside s x y
@@ -55,22 +55,23 @@ mesh s accepted = let w = sound s accepted in record {
   down = record { few = w.few_rows; many = w.many_rows; there = omega (arith, w.whole); rising = w.rising_y };
 }
 
--- the header and the lines of a sheet with axes are there
-pub header_read : {s : List ℕ} → Mesh s → header_size ≤ length s
-header_read m = omega (arith, m.across.there)
-
+-- the lines of a sheet with axes are there
 pub lines_read : {s : List ℕ} → Mesh s → nodes_offset s ≤ length s
 lines_read m = omega (arith, m.down.there)
 
 -- what they are along either axis
 pub record Along (a : layout.Axis) (s : List ℕ) : Type 0 where
   pub few : 2 ≤ lines_of a s
-  pub many : lines_of a s ≤ 65
+  pub there : start_of a s + 2 * lines_of a s ≤ length s
   pub rising : Rising (line_of a s) (lines_of a s)
 
 pub along : {s : List ℕ} → Mesh s → (a : layout.Axis) → Along a s
-along m layout.TheVariants.X = record { few = m.across.few; many = m.across.many; rising = m.across.rising }
-along m layout.TheVariants.Y = record { few = m.down.few; many = m.down.many; rising = m.down.rising }
+along m layout.TheVariants.X = record { few = m.across.few; there = m.across.there; rising = m.across.rising }
+along m layout.TheVariants.Y = record { few = m.down.few; there = m.down.there; rising = m.down.rising }
+
+pub line_is_from : (a : layout.Axis) (s : List ℕ) (k : ℕ) → line_of a s k ≡ line_from s (start_of a s) k
+line_is_from layout.TheVariants.X s k = refl
+line_is_from layout.TheVariants.Y s k = refl
 
 module _ (s : List ℕ) (x y : ℕ) (inside : Inside s x y) where
   pub x_between : Between (line_from s x_lines_offset) (columns s) x

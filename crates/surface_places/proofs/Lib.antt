@@ -1,3 +1,4 @@
 pub mod Axes
-pub mod Search
+pub mod Inner
 pub mod Spots
+pub mod Touching

@@ -14,6 +14,7 @@ ghost use Rattle.surface_places.specs.Found.{Mesh, Between, CellTouches, off_axi
 use element_cell::{Piece, Pixel, piece_at};
 use sheet_calls::accepted::Sheet;
 use sheet_layout::axis::Axis;
+use sheet_words::word;
 
 // The lowest and the highest cell along an axis that touch a position. They differ on inner lines alone.
 #[derive(Clone, Copy)]
@@ -53,6 +54,7 @@ pub struct Lines<'a> {
 }
 
 impl<'a> Lines<'a> {
+    // Those of an accepted sheet.
     pub fn of(sheet: Sheet<'a>) -> Lines<'a>
         ensures { result.bytes ≡ sheet.entry.bytes }
     {
@@ -148,21 +150,13 @@ impl<'a> Lines<'a> {
         }
     }
 
-    // The last cell that starts at or before the position, by halving: `low` does, and `high` is the last line or lies beyond the position.
+    // The last cell that starts at or before the position: its number is how many of the inner lines do.
     fn highest_along(self, axis: Axis, position: u32) -> usize
         requires { Between (line_of axis self.bytes.now) (lines_of axis self.bytes.now) position }
         ensures { result ≡ highest_along (line_of axis self.entry.bytes.now) (lines_of axis self.entry.bytes.now - 2) position }
     {
-        let mut low: usize = 0;
-        let mut high = axis.lines(self.bytes) - 1;
-        while low + 1 < high {
-            let middle = (low + high) / 2;
-            if axis.line(self.bytes, middle) <= position {
-                low = middle;
-            } else {
-                high = middle;
-            }
-        }
-        low
+        let (lines, _) = self.bytes[axis.start(self.bytes)..].as_chunks::<2>();
+        let inner = &lines[1..axis.lines(self.bytes) - 1];
+        inner.partition_point(|line| word(line, 0) <= position)
     }
 }

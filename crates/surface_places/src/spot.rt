@@ -1,4 +1,4 @@
-// A pixel of the mesh of an accepted sheet, or why there is none.
+// A pixel of the mesh of an accepted sheet: made, or refused; its cells, and its place.
 ghost use Rattle.std.specs.Prelude.{◌≡◌, IfOk};
 ghost use Rattle.sheet_calls.specs.Refused.{refusal_number};
 ghost use Rattle.sheet_calls.specs.WellFormed.{Inside};
@@ -11,6 +11,7 @@ use sheet_calls::accepted::Sheet;
 use sheet_calls::refusal::Refusal;
 use sheet_checking::accepted;
 
+// A pixel of the mesh of an accepted sheet.
 #[derive(Clone, Copy)]
 pub struct Spot<'a> {
     pub sheet: Sheet<'a>,

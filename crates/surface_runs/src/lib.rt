@@ -33,10 +33,11 @@ pub fn run(sheet: &[u8], x: u32, y: u32, row: &mut [i32], budget: usize)
     let sheet = Sheet { bytes: sheet };
     let spot = Spot { sheet, x, y };
     let place = spot.place();
+    let pixel = place.pixel;
     let strip = Strip {
         row: place.row,
-        offset: place.pixel.b,
-        height: place.pixel.height,
+        offset: pixel.b,
+        height: pixel.height,
     };
     let mut column = place.column;
     let mut done: usize = 0;

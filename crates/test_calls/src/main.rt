@@ -11,12 +11,10 @@ mod lines;
 mod readings;
 mod runs;
 
-use input::{long, part, read_full, short, signed, widened};
-use lines::{answer, call, number_after_blank, position};
-use sheet_words::wide;
-use std::io;
+use bounded_input::read_full;
+use lines::{Case, answer};
 use std::io::Read;
-use test_printing::field;
+use std::{array, io};
 
 fn main(rt: HostRuntime) -> io::Result<()> {
     let mut input = rt.stdin();
@@ -32,128 +30,92 @@ fn main(rt: HostRuntime) -> io::Result<()> {
 // One case, or false where the input has ended.
 fn case(rt: &impl Print, input: &mut impl Read) -> io::Result<bool> {
     let mut head = [0u8; 6];
-    if read_full(input, &mut head) < 6 {
+    if read_full(input, &mut head) < head.len() {
         return Ok(false);
     }
+    let [name_size, sheet_size, calls]: [u16; 3] = array::from_fn(|k| {
+        let at = 2 * k;
+        u16::from_le_bytes([head[at], head[at + 1]])
+    });
     let mut name = [0u8; 64];
     let mut sheet = [0u8; 26000];
     let mut copy = [0u8; 26000];
-    let name_size = part(input, short(head[0], head[1]), &mut name);
-    let sheet_size = part(input, short(head[2], head[3]), &mut sheet);
-    make_calls(
-        rt,
-        input,
-        &name[..name_size],
-        &sheet[..sheet_size],
-        &mut copy,
-        short(head[4], head[5]),
-    )?;
-    Ok(true)
-}
-
-fn make_calls(
-    rt: &impl Print,
-    input: &mut impl Read,
-    name: &[u8],
-    sheet: &[u8],
-    copy: &mut [u8],
-    calls: u32,
-) -> io::Result<()> {
+    let case = Case {
+        name: input::part(input, name_size, &mut name),
+        sheet: input::part(input, sheet_size, &mut sheet),
+    };
     for _ in 0..calls {
-        make_call(rt, input, name, sheet, copy)?;
+        make_call(rt, input, case, &mut copy)?;
     }
-    Ok(())
+    Ok(true)
 }
 
 // Reads a call and makes it.
 fn make_call(
     rt: &impl Print,
     input: &mut impl Read,
-    name: &[u8],
-    sheet: &[u8],
+    case: Case<'_>,
     copy: &mut [u8],
 ) -> io::Result<()> {
-    let mut c = [0u8; 21];
-    read_full(input, &mut c);
-    let letter = c[0];
-    let v = [
-        long(c[1], c[2], c[3], c[4]),
-        long(c[5], c[6], c[7], c[8]),
-        long(c[9], c[10], c[11], c[12]),
-        long(c[13], c[14], c[15], c[16]),
-        long(c[17], c[18], c[19], c[20]),
-    ];
-    match letter {
-        b'c' => check(rt, name, sheet),
-        b'n' => node(rt, name, sheet, v[0], v[1]),
-        b's' => set_node(rt, name, sheet, copy, v),
-        b'r' => readings::read(rt, name, sheet, v[0], v[1], v[2]),
-        b'f' => runs::fill_run(rt, name, sheet, v[0], v[1], v[2]),
+    let mut call = [0u8; 21];
+    read_full(input, &mut call);
+    let numbers: [u32; 5] = array::from_fn(|k| {
+        let at = 1 + 4 * k;
+        u32::from_le_bytes([call[at], call[at + 1], call[at + 2], call[at + 3]])
+    });
+    let [x, y, third, _, _] = numbers;
+    match call[0] {
+        b'c' => check(rt, case),
+        b'n' => node(rt, case, x, y),
+        b's' => set_node(rt, case, copy, numbers),
+        b'r' => readings::read(rt, case, x, y, third),
+        b'f' => runs::fill_run(rt, case, x, y, third),
         _ => Ok(()),
     }
 }
 
-fn check(rt: &impl Print, name: &[u8], sheet: &[u8]) -> io::Result<()> {
-    call(rt, "check", name)?;
-    answer(rt, light_sheet::check(sheet))?;
+fn check(rt: &impl Print, case: Case<'_>) -> io::Result<()> {
+    case.call(rt, "check")?;
+    answer(rt, light_sheet::check(case.sheet))?;
     println!(rt; "")
 }
 
-fn node(rt: &impl Print, name: &[u8], sheet: &[u8], column: u32, row: u32) -> io::Result<()> {
-    call(rt, "node", name)?;
-    position(rt, column, row)?;
-    answer(rt, light_sheet::node_refusal(sheet, column, row))?;
-    handed_back(rt, light_sheet::node(sheet, column, row))?;
+fn node(rt: &impl Print, case: Case<'_>, column: u32, row: u32) -> io::Result<()> {
+    case.call_at(rt, "node", column, row)?;
+    answer(rt, light_sheet::node_refusal(case.sheet, column, row))?;
+    handed_back(rt, light_sheet::node(case.sheet, column, row))?;
     println!(rt; "")
 }
 
 // Sets the node in a fresh copy of the sheet.
-fn set_node(
-    rt: &impl Print,
-    name: &[u8],
-    sheet: &[u8],
-    copy: &mut [u8],
-    v: [u32; 5],
-) -> io::Result<()> {
-    let height = signed(v[2]);
-    let x_slope = signed(v[3]);
-    let y_slope = signed(v[4]);
-    call(rt, "set_node", name)?;
-    position(rt, v[0], v[1])?;
-    field(rt, widened(height))?;
-    field(rt, widened(x_slope))?;
-    field(rt, widened(y_slope))?;
-    let size = input::copy(sheet, copy);
-    answer(
-        rt,
-        light_sheet::set_node(&mut copy[..size], v[0], v[1], height, x_slope, y_slope),
-    )?;
-    changes(rt, sheet, copy)?;
+fn set_node(rt: &impl Print, case: Case<'_>, copy: &mut [u8], numbers: [u32; 5]) -> io::Result<()> {
+    let [column, row, height, x_slope, y_slope] = numbers;
+    let [height, x_slope, y_slope] = [height, x_slope, y_slope].map(|n| n.cast_signed());
+    case.call_at(rt, "set_node", column, row)?;
+    print!(rt; "{height} {x_slope} {y_slope} ")?;
+    let set = input::copy(case.sheet, copy);
+    let number = light_sheet::set_node(set, column, row, height, x_slope, y_slope);
+    answer(rt, number)?;
+    changes(rt, case.sheet, set)?;
     println!(rt; "")
 }
 
 // A part's length and bytes.
 fn handed_back(rt: &impl Print, part: &[u8]) -> io::Result<()> {
-    number_after_blank(rt, part.len() as u64)?;
-    print!(rt; " bytes")?;
+    let size = part.len();
+    print!(rt; " {size} bytes")?;
     for byte in part {
-        number_after_blank(rt, wide(*byte) as u64)?;
+        print!(rt; " {byte}")?;
     }
     Ok(())
 }
 
 // Each byte that differs after the call, as index=value.
 fn changes(rt: &impl Print, before: &[u8], after: &[u8]) -> io::Result<()> {
-    let mut k: usize = 0;
-    while k < before.len() && k < after.len() {
-        if before[k] != after[k] {
-            change(rt, k, after[k])?;
+    for (index, (old, new)) in before.iter().zip(after).enumerate() {
+        if old != new {
+            print!(rt; " {index}={new}")?;
         }
-        k += 1;
     }
     Ok(())
-}
-
-fn change(rt: &impl Print, index: usize, value: u8) -> io::Result<()> {
-    print!(rt; " {index}={value}")
 }

@@ -1,94 +1,56 @@
 // The call `read`: its line ends in the whole numbers before the division.
-use super::lines::{answer, call, position};
+use super::lines::{Case, answer};
 use std::io;
+use std::num::{nearest_i64_to_f64, saturating_f64_to_i64};
 use surface_answers::{Answer, BendReading, LevelReading, TiltReading};
-use test_printing::{field, last};
 
 // Those of level, tilt and bend.
 pub fn divisors(rt: &impl Print) -> io::Result<()> {
-    print!(rt; "divisors ")?;
-    value(rt, LevelReading::DIVISOR, 1.0)?;
-    value(rt, TiltReading::DIVISOR, 1.0)?;
-    last_value(rt, BendReading::DIVISOR, 1.0)
+    print!(rt; "divisors")?;
+    let divisors = [
+        LevelReading::DIVISOR,
+        TiltReading::DIVISOR,
+        BendReading::DIVISOR,
+    ];
+    whole_numbers(rt, &divisors, 1.0)
 }
 
-pub fn read(
-    rt: &impl Print,
-    name: &[u8],
-    sheet: &[u8],
-    x: u32,
-    y: u32,
-    kind: u32,
-) -> io::Result<()> {
-    call(rt, "read", name)?;
-    position(rt, x, y)?;
-    field(rt, kind as i64)?;
-    match light_sheet::read(sheet, x, y, kind) {
-        Answer::Level(level) => level_line(rt, level),
-        Answer::Tilt(tilt_x, tilt_y) => tilt_line(rt, tilt_x, tilt_y),
-        Answer::Bend(xx, xy, yy) => bend_line(rt, xx, xy, yy),
-        Answer::Refused(number) => refused_line(rt, number),
+pub fn read(rt: &impl Print, case: Case<'_>, x: u32, y: u32, kind: u32) -> io::Result<()> {
+    case.call_at(rt, "read", x, y)?;
+    print!(rt; "{kind} ")?;
+    match light_sheet::read(case.sheet, x, y, kind) {
+        Answer::Level(level) => accepted(rt, &[level], LevelReading::DIVISOR),
+        Answer::Tilt(x, y) => accepted(rt, &[x, y], TiltReading::DIVISOR),
+        Answer::Bend(xx, xy, yy) => accepted(rt, &[xx, xy, yy], BendReading::DIVISOR),
+        Answer::Refused(number) => refused(rt, number),
     }
 }
 
-fn level_line(rt: &impl Print, level: f64) -> io::Result<()> {
-    accepted(rt)?;
-    last_value(rt, level, LevelReading::DIVISOR)
+fn accepted(rt: &impl Print, values: &[f64], divisor: f64) -> io::Result<()> {
+    answer(rt, 0)?;
+    whole_numbers(rt, values, divisor)
 }
 
-fn tilt_line(rt: &impl Print, x: f64, y: f64) -> io::Result<()> {
-    accepted(rt)?;
-    value(rt, x, TiltReading::DIVISOR)?;
-    last_value(rt, y, TiltReading::DIVISOR)
-}
-
-fn bend_line(rt: &impl Print, xx: f64, xy: f64, yy: f64) -> io::Result<()> {
-    accepted(rt)?;
-    value(rt, xx, BendReading::DIVISOR)?;
-    value(rt, xy, BendReading::DIVISOR)?;
-    last_value(rt, yy, BendReading::DIVISOR)
-}
-
-fn refused_line(rt: &impl Print, number: u32) -> io::Result<()> {
+fn refused(rt: &impl Print, number: u32) -> io::Result<()> {
     answer(rt, number)?;
     println!(rt; "")
 }
 
-fn accepted(rt: &impl Print) -> io::Result<()> {
-    answer(rt, 0)?;
-    print!(rt; " ")
+// The end of a line: of each value the whole number that was divided, or "inexact".
+fn whole_numbers(rt: &impl Print, values: &[f64], divisor: f64) -> io::Result<()> {
+    for v in values {
+        match whole(*v, divisor) {
+            Some(n) => print!(rt; " {n}")?,
+            None => print!(rt; " inexact")?,
+        }
+    }
+    println!(rt; "")
 }
 
-// The whole number that was divided, or "inexact" where v is not its quotient.
-fn value(rt: &impl Print, v: f64, divisor: f64) -> io::Result<()> {
-    if exact(v, divisor) {
-        field(rt, whole(v * divisor))
-    } else {
-        print!(rt; "inexact ")
-    }
-}
-
-// The one that ends its line.
-fn last_value(rt: &impl Print, v: f64, divisor: f64) -> io::Result<()> {
-    if exact(v, divisor) {
-        last(rt, whole(v * divisor))
-    } else {
-        println!(rt; "inexact")
-    }
-}
-
-// Whether v is a whole number over the divisor, and no negative zero.
-fn exact(v: f64, divisor: f64) -> bool {
-    if v == 0.0 && 1.0 / v < 0.0 {
-        return false;
-    }
-    std::num::nearest_i64_to_f64(whole(v * divisor)) / divisor == v
-}
-
-// v without its fraction, or 0 where that does not fit.
-fn whole(v: f64) -> i64 {
-    if v >= -9223372036854775808.0 && v < 9223372036854775808.0 {
-        return std::num::truncating_f64_to_i64(v);
-    }
-    0
+// The whole number that has v as its quotient; a negative zero is none.
+fn whole(v: f64, divisor: f64) -> Option<i64> {
+    let n = saturating_f64_to_i64(v * divisor);
+    let is_quotient = nearest_i64_to_f64(n) / divisor == v;
+    let is_negative_zero = v == 0.0 && 1.0 / v < 0.0;
+    (is_quotient && !is_negative_zero).then_some(n)
 }

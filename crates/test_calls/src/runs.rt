@@ -2,31 +2,21 @@
 // of a row that a refused call was lent; `margin_altered`, of slots beside the row; `unlike_read`, of a level that `read` does not give.
 ghost use Rattle.std.specs.Prelude.{◌≤◌, length};
 
-use super::input::widened;
-use super::lines::{answer, call, position};
+use super::lines::{Case, answer};
 use std::io;
 use surface_answers::{Answer, LevelReading};
-use test_printing::{field, next};
 
 // How many slots before the lent row, and after it, are looked at: no cell is wider.
 const MARGIN: usize = 64;
 
 // A row that the buffer does not hold between two margins is left out, and its line is then missing.
-pub fn fill_run(
-    rt: &impl Print,
-    name: &[u8],
-    sheet: &[u8],
-    x: u32,
-    y: u32,
-    size: u32,
-) -> io::Result<()> {
+pub fn fill_run(rt: &impl Print, case: Case<'_>, x: u32, y: u32, size: u32) -> io::Result<()> {
     let mut buffer = [0i32; 5128];
     let end = MARGIN + size as usize;
-    if end + MARGIN <= 5128 {
-        call(rt, "fill_run", name)?;
-        position(rt, x, y)?;
-        field(rt, size as i64)?;
-        fill_lent(rt, sheet, x, y, &mut buffer[0..end + MARGIN], end)?;
+    if end + MARGIN <= buffer.len() {
+        case.call_at(rt, "fill_run", x, y)?;
+        print!(rt; "{size} ")?;
+        fill_lent(rt, case.sheet, x, y, &mut buffer[..end + MARGIN], end)?;
         println!(rt; "")?;
     }
     Ok(())
@@ -62,23 +52,19 @@ fn fill_lent(
 
 // Marks every slot.
 fn mark(buffer: &mut [i32]) {
-    let mut k: usize = 0;
-    while k < buffer.len() {
-        buffer[k] = mark_of(k);
-        k += 1;
+    for (slot, level) in buffer.iter_mut().enumerate() {
+        *level = mark_of(slot);
     }
 }
 
 // Whether the slots from one on, and before another, have their marks.
 fn marked(buffer: &[i32], from: usize, to: usize) -> bool {
-    let mut k = from;
-    while k < to && k < buffer.len() {
-        if buffer[k] != mark_of(k) {
-            return false;
-        }
-        k += 1;
-    }
-    true
+    buffer
+        .iter()
+        .enumerate()
+        .take(to)
+        .skip(from)
+        .all(|(slot, level)| *level == mark_of(slot))
 }
 
 // A number for each slot of a buffer, all different and none a level.
@@ -88,35 +74,25 @@ fn mark_of(slot: usize) -> i32 {
 
 fn levels(rt: &impl Print, row: &[i32]) -> io::Result<()> {
     for level in row {
-        next(rt, widened(*level))?;
+        print!(rt; " {level}")?;
     }
     Ok(())
 }
 
 // Whether `read` gives the row's levels, from (x, y) on to the right.
 fn as_read(sheet: &[u8], x: u32, y: u32, row: &[i32]) -> bool {
-    let mut k: usize = 0;
-    while k < row.len() {
-        if !reads(sheet, x, k, y, row[k]) {
-            return false;
-        }
-        k += 1;
-    }
-    true
+    row.iter()
+        .enumerate()
+        .all(|(k, level)| reads(sheet, x, k, y, *level))
 }
 
 // Whether `read` gives this level at the pixel k slots to the right of (x, y), on a mesh that ends by 4,096.
 fn reads(sheet: &[u8], x: u32, k: usize, y: u32, level: i32) -> bool {
-    if 4096 < x {
-        return false;
-    }
-    if 4096 < k {
+    if 4096 < x || 4096 < k {
         return false;
     }
     match light_sheet::read(sheet, x + k as u32, y, 0) {
-        Answer::Level(steps) => steps * LevelReading::DIVISOR == level as f64,
-        Answer::Tilt(a, b) => false,
-        Answer::Bend(a, b, c) => false,
-        Answer::Refused(number) => false,
+        Answer::Level(steps) => steps * LevelReading::DIVISOR == f64::from(level),
+        _ => false,
     }
 }

@@ -6,7 +6,6 @@ ghost use Rattle.integers.specs.Ratio.{Ratio};
 
 use integers::Denominator;
 use std::io;
-use test_printing::{field, last};
 
 const NUMERATORS: [i64; 28] = [
     0,
@@ -53,10 +52,10 @@ const DENOMINATORS: [i64; 10] = [
 ];
 
 fn main(rt: HostRuntime) -> io::Result<()> {
-    let mut k = 0;
-    while k < 280 {
-        line(&rt, NUMERATORS[k % 28], DENOMINATORS[k / 28])?;
-        k += 1;
+    for d in DENOMINATORS {
+        for n in NUMERATORS {
+            line(&rt, n, d)?;
+        }
     }
     Ok(())
 }
@@ -69,20 +68,19 @@ fn line(rt: &impl Print, n: i64, d: i64) -> io::Result<()> {
     if n < -4611686018427387904 || 4611686018427387904 < n {
         return Ok(());
     }
-    field(rt, n)?;
-    field(rt, d)?;
     results(rt, n, d)
 }
 
 fn results(rt: &impl Print, n: i64, d: i64) -> io::Result<()>
     requires { Ratio n d }
 {
-    field(rt, integers::floor_div(n, d))?;
+    let floor = integers::floor_div(n, d);
+    let rounded = integers::round(n, d);
+    print!(rt; "{n} {d} {floor} {rounded}")?;
     let reach = 16777216 * d;
     if -reach <= n && n <= reach {
-        field(rt, integers::round(n, d))?;
-        last(rt, Denominator::new(d).round_small(n))
-    } else {
-        last(rt, integers::round(n, d))
+        let small = Denominator::new(d).round_small(n);
+        print!(rt; " {small}")?;
     }
+    println!(rt; "")
 }

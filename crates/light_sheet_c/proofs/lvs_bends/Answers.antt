@@ -11,7 +11,7 @@ use Rattle.light_sheet_c.specs.Values.{count_over}
 use Rattle.light_sheet_c.proofs.lvs_bends.Goals as goal
 
 -- a refusal hands out no count
-none_counted : (s : List ℕ) (x y places : ℕ) (r : Listed) (n held : ℕ) → r ≡ Refused n → tally r ≡ counted s x y places → held ≡ count_over (counted s x y places) held
+none_counted : (s : List ℕ) (x y places : ℕ) (r : Result ℕ Refusal) (n held : ℕ) → r ≡ Refused n → tally r ≡ counted s x y places → held ≡ count_over (counted s x y places) held
 unfolding count_over
 none_counted s x y places r n held e t = elim (ℕ_discrete (bends_refusal s x y places) 0) [
   | yes z ↦ let same = sym (bend_laws.pieces s x y places z r t) ∙ e in absurd (let no : ◌≡◌ {A = ℕ} 0 1 = cc in omega arith)

@@ -1,15 +1,11 @@
 -- `sheet_words::signed_word` meets its contract. Assumes nothing.
-use mathlib.Core.Path.{◌∙◌, ap}
-use lib.IntN.{pos}
-use mir.Syntax.{w64}
-use Rattle.integers.proofs.Operand.{literal, unsigned, ◌⊟◌, gives}
-use Rattle.sheet_words.specs.Word.{signed}
-use Rattle.sheet_words.proofs.Signs.{raised_small, signed_raised, signed_within}
+use Rattle.std.proofs.Common.{◌∙◌, w16, w64}
+use Rattle.integers.proofs.Operand.{any, unchanged}
+use Rattle.sheet_words.proofs.Signs.{reads_signed}
 use Rattle.sheet_words.proofs.signed_word.Goals as goal
 
--- the bits raised by 32,768, as a signed number, and lowered again
+-- what is read is handed on as it is
 pub returns : goal.returns
 returns c =
-    let lowered = unsigned w64 (raised_small c.word.result) tt ⊟ literal (pos 32768) in
-    let e = gives w64 lowered tt ∙ signed_raised c.word.result c.word.ensures.1 in
-    (e ∙ ap signed c.word.ensures.0, rw e (signed_within c.word.result c.word.ensures.1))
+    let e = unchanged w64 c.from.type_inv ∙ c.from.ensures ∙ unchanged w16 c.from_le_bytes.type_inv in
+    (e ∙ c.from_le_bytes.ensures ∙ reads_signed _, rw e (any w16 (record { sfits = c.from_le_bytes.type_inv })).bounded)

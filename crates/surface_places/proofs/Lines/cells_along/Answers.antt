@@ -1,7 +1,7 @@
 -- `surface_places::Lines::cells_along` meets its contract. Assumes nothing.
 use Rattle.std.proofs.Common.{arith}
 use Rattle.surface_places.proofs.Axes.{lines_read, along}
-use Rattle.surface_places.proofs.Search.{highest_holds, two_cells, one_cell}
+use Rattle.surface_places.proofs.Touching.{highest_holds, two_cells, one_cell}
 use Rattle.surface_places.proofs.Lines.cells_along.Goals as goal
 use Rattle.surface_places.proofs.Lines.cells_along.Goals.{else-highest-gt0-via-then-highest-gt0+else-position-line, else-highest-gt0-via-else-highest-gt0}
 
