@@ -36,7 +36,7 @@ level_left {held = held} c e = c.level ∙ ap (λ r. level_over (zoned_outcome r
 
 pub level_kept : {s b t b' : List ℕ} {x y n : ℕ} {held held' : ℤ} → ZonedLevelInto s b x y held n held' t b' → ¬ (n ≡ 0) → held' ≡ held
 unfolding level_over zoned_outcome
-level_kept c h = level_left c (refused_level c.is_zoned (sym c.answer) h)
+level_kept c h = let w = refused_level c.is_zoned (sym c.answer) h in level_left c w.is
 
 pub level_written : {s b t b' : List ℕ} {x y : ℕ} {held held' : ℤ} (c : ZonedLevelInto s b x y held 0 held' t b') → c.zoned ≡ Ok held'
 unfolding level_over zoned_outcome

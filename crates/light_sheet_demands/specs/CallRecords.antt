@@ -9,7 +9,7 @@ use Rattle.sheet_calls.specs.Calls.{Part, looked_up, with_node}
 use Rattle.sheet_slopes.specs.Slopes.{slope_refusal, with_slopes}
 use Rattle.sheet_pool.specs.Pool.{pool_refusal, with_pool}
 use Rattle.sheet_reach.specs.Reach.{reach_refusal, told, reach_answer}
-use Rattle.sheet_reach.specs.declared.Reach.{Reach}
+use Rattle.sheet_reach.specs.declared.OuterLines.{OuterLines}
 use Rattle.surface_answers.specs.Answers.{outcome}
 use Rattle.surface_answers.specs.declared.Answer.{Answer}
 use Rattle.surface_of_sheet.specs.Read.{read}
@@ -91,7 +91,7 @@ pub record RunSteps (s : List ℕ) (x y : ℕ) (row : List ℤ) (budget : ℕ) (
   pub sheet : t ≡ s
 
 -- the worker of the program `reach`, `sheet_reaching::reach`, on all bytes that are read gives r: by the answer's definition its number and its positions
-pub record ReachOf (input : List ℕ) (r : Reach) (t : List ℕ) : Type 0 where
+pub record ReachOf (input : List ℕ) (r : Result OuterLines Refusal) (t : List ℕ) : Type 0 where
   pub answer : (told r).number ≡ reach_refusal input
   pub positions : (told r).positions ≡ (reach_answer input).positions
   pub bytes : t ≡ input

@@ -79,6 +79,6 @@ pub record ScreenZones : Type 0 where
   pub taken_of_run : {s b t u b' : List ℕ} {x y m n : ℕ} {plain plain' row row' : List ℤ} → FillRun s x y plain n plain' u → length plain ≡ length row →
       FillZonedRun s b x y row m row' t b' → (m ≡ 0) ↔ ((n ≡ 0) × OfZones b × EachValid b)
   -- the call for C hands out the same level
-  pub for_c : {s b t b' : List ℕ} {x y : ℕ} {held held' : ℤ} → ZonedLevelInto s b x y held 0 held' t b' → ZonedLevel s b x y (Level held') t b'
+  pub for_c : {s b t b' : List ℕ} {x y : ℕ} {held held' : ℤ} → ZonedLevelInto s b x y held 0 held' t b' → ZonedLevel s b x y (Ok held') t b'
   -- "Plain levels, tilts and bends don't look at zones, and demands 2 and 3 speak of these": `read`, `bends` and `fill_run` are lent no list, and what demands 2
   -- and 3 say of them is as it was
