@@ -1,11 +1,10 @@
--- The test of a node's range is that each of its numbers is in range; and the test of a number in signed code. Assumes nothing.
+-- The test of a node's range is that each of its numbers is in range. Assumes nothing.
 use Prim.Native.Nat.{ℕ}
-use mathlib.Core.Path.{◌≡◌, refl, sym, ◌∙◌}
+use mathlib.Core.Path.{◌≡◌}
 use mathlib.Core.Logic.{◌↔◌}
-use mathlib.Core.Bool.{true, ◌&&◌, and-true}
-use lib.Dec.{leb, leb-suc-suc}
-use lib.IntN.{ℤ, pos, negsuc, nat_abs}
-use lib.Signed.{le_z}
+use mathlib.Core.Bool.{true}
+use lib.Dec.{leb}
+use lib.IntN.{ℤ, nat_abs}
 use Rattle.integers.specs.Within.{◌within◌}
 use Rattle.sheet_layout.specs.Format.{Node, highest, steepest, height_in, slope_in, node_in}
 use Rattle.sheet_layout.proofs.Meaning.{leb_holds, and_holds}
@@ -20,10 +19,3 @@ slope_in_lem z = within_holds z steepest
 pub node_in_lem : (v : Node) → (node_in v ≡ true) ↔ (((v.stored_height within highest) × (v.slope_x within steepest)) × (v.slope_y within steepest))
 unfolding node_in height_in
 node_in_lem v = and_holds (and_holds (within_holds v.stored_height highest) (slope_in_lem v.slope_x)) (slope_in_lem v.slope_y)
-
--- ---- in signed code
-
-pub in_range : (z : ℤ) → le_z (negsuc 4094) z && le_z z (pos 4095) ≡ slope_in z
-unfolding slope_in
-in_range (pos n) = refl
-in_range (negsuc n) = and-true (leb n 4094) ∙ sym (leb-suc-suc n 4094)

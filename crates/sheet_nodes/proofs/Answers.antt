@@ -41,22 +41,22 @@ module _ (s : List ℕ) (i j : ℕ) (v : Node) where
   abbrev Sets : ℕ → List ℕ → Type 0
   Sets n t = (n ≡ setting_refusal s i j v) × (t ≡ with_node s i j v)
 
-  unset : {n : ℕ} → n ≡ setting_refusal s i j v → (n ≡ 0 → ⊥) → Sets n s
-  unset e h = (e, sym (refused_is s i j v (λ z. h (e ∙ z))))
+  unset : {n : ℕ} → n ≡ setting_refusal s i j v → ¬ (n ≡ 0) → s ≡ with_node s i j v
+  unset e h = sym (refused_is s i j v (λ z. h (e ∙ z)))
 
-  pub set_refused : (r : Refusal) → number r ≡ lookup_refusal s i j → Sets (number r) s
+  pub set_refused : (r : Refusal) → number r ≡ lookup_refusal s i j → s ≡ with_node s i j v
   set_refused r e = unset (refused_first _ _ (setting_is s i j v) r e) (number-not_zero r)
 
-  -- u is v as the code hands it on, and w the answer on its numbers
-  module _ (e : 0 ≡ lookup_refusal s i j) {u : Node} (f : u ≡ v) {w : Bool} (q : w ≡ wrong_numbers u) where
+  -- w is the answer on the numbers
+  module _ (e : 0 ≡ lookup_refusal s i j) {w : Bool} (q : w ≡ wrong_numbers v) where
     numbers_answer : {b : Bool} → w ≡ b → cond b 11 0 ≡ setting_refusal s i j v
-    numbers_answer h = ap (λ b. cond b 11 0) (sym h ∙ q ∙ ap wrong_numbers f) ∙ passed_by _ _ (setting_is s i j v) e refl
+    numbers_answer h = ap (λ b. cond b 11 0) (sym h ∙ q) ∙ passed_by _ _ (setting_is s i j v) e refl
 
     pub set_wrong : w ≡ true → Sets 11 s
-    set_wrong h = unset (numbers_answer h) (λ k. omega arith)
+    set_wrong h = let n = numbers_answer h in (n, unset n (λ k. omega arith))
 
-    pub set_done : w ≡ false → {at : ℕ} {t : List ℕ} → at ≡ node_offset s i j → t ≡ replaced s at (encoded u) → Sets 0 t
-    set_done h a k = let n = numbers_answer h in (n, k ∙ rw (a, f) (sym (set_is s i j v (sym n))))
+    pub set_done : w ≡ false → {at : ℕ} {t : List ℕ} → at ≡ node_offset s i j → t ≡ replaced s at (encoded v) → Sets 0 t
+    set_done h a k = let n = numbers_answer h in (n, k ∙ rw a (sym (set_is s i j v (sym n))))
 
 -- a caller's numbers as the machine hands them on: what is set is the caller's
 pub handed_on : (s : List ℕ) (i j : ℕ) {h x y : ℤ} → SFits w32 h → SFits w32 x → SFits w32 y → {n : ℕ} {t : List ℕ}

@@ -35,23 +35,11 @@ pub fn node_refusal(sheet: &[u8], column: u32, row: u32) -> Result<(), Refusal>
 }
 
 // Sets a node's numbers; or, refused, leaves the sheet as it was.
-pub fn set_node(
-    sheet: &mut [u8],
-    column: u32,
-    row: u32,
-    height: i32,
-    x_slope: i32,
-    y_slope: i32,
-) -> Result<(), Refusal>
-    ensures answer { refusal_number result ≡ setting_refusal sheet.old column row (node height x_slope y_slope) }
-    ensures sheet { sheet.new ≡ with_node sheet.old column row (node height x_slope y_slope) }
+pub fn set_node(sheet: &mut [u8], column: u32, row: u32, numbers: Node) -> Result<(), Refusal>
+    ensures answer { refusal_number result ≡ setting_refusal sheet.old column row (node numbers.height numbers.x_slope numbers.y_slope) }
+    ensures sheet { sheet.new ≡ with_node sheet.old column row (node numbers.height numbers.x_slope numbers.y_slope) }
 {
     node_refusal(sheet, column, row)?;
-    let numbers = Node {
-        height,
-        x_slope,
-        y_slope,
-    };
     if wrong_numbers(numbers) {
         return Err(Refusal::WrongNumbers);
     }

@@ -4,7 +4,7 @@ use mathlib.Core.Path.{◌≡◌, refl, ap}
 use mathlib.Core.Bool.{cond}
 use native.Mathlib.Omega.{arith}
 use lib.IntN.{ℤ, pos, negsuc, ◌+ℤ◌}
-use lib.Dec.{ltb, leb→le, ltb→lt, nltb→le}
+use lib.Dec.{ltb, leb→le}
 use lib.Signed.{◌≤ℤ◌}
 use mir.Syntax.{w16}
 use mir.Val.{to_z, of_z}
@@ -20,11 +20,7 @@ unfolding bits_of
 bits_small {z = pos n} w = omega (arith, w.bound)
 bits_small {z = negsuc n} w = omega arith
 
--- ---- the library's reading of 16 bits: those from 32,768 on have 65,536 taken away
-
-pub reads_signed : (w : ℕ) → to_z w16 w ≡ signed w
-unfolding signed
-reads_signed w = let e : 65536 - suc w ≡ 65535 - w = omega arith in ap (λ m. cond (ltb w 32768) (pos w) (negsuc m)) e
+-- ---- what bits stand for
 
 pub signed_natural : (w : ℕ) → w < 32768 → signed w ≡ pos w
 unfolding signed
@@ -33,13 +29,6 @@ signed_natural w h = rw (lt-ltb w 32768 h) refl
 pub signed_negative : (w : ℕ) → 32768 ≤ w → w < 65536 → signed w +ℤ pos 65536 ≡ pos w
 unfolding signed
 signed_negative w h k = rw (le-ltb w 32768 h) (subℕ_pos 65536 (suc (65535 - w)) w (omega (arith, h, k)))
-
-pub signed_within : (w : ℕ) → w < 65536 → signed w within 32768
-unfolding signed
-signed_within w h =
-    cond_ind (ltb w 32768) (pos w) (negsuc (65535 - w)) (λ z. z within 32768)
-    (λ t. let k = ltb→lt w 32768 t in record { bound = omega (arith, k) })
-    (λ t. let k = nltb→le w 32768 t in record { bound = omega (arith, k, h) })
 
 -- ---- they are inverse
 
@@ -54,7 +43,11 @@ pub bits_signed_lem : (w : ℕ) → w < 65536 → bits_of (signed w) ≡ w
 unfolding signed bits_of
 bits_signed_lem w h = cond_ind (ltb w 32768) (pos w) (negsuc (65535 - w)) (λ z. bits_of z ≡ w) (λ t. refl) (λ t. omega (arith, h))
 
--- ---- the library's bits of a number
+-- ---- the library reads and writes them so
+
+pub reads_signed : (w : ℕ) → to_z w16 w ≡ signed w
+unfolding signed
+reads_signed w = let e : 65536 - suc w ≡ 65535 - w = omega arith in ap (λ m. cond (ltb w 32768) (pos w) (negsuc m)) e
 
 pub writes_bits : (z : ℤ) → of_z w16 z ≡ bits_of z
 unfolding bits_of

@@ -38,10 +38,3 @@ pub fn bits_of(x: i32) -> u32
 {
     u32::from((x as i16).cast_unsigned())
 }
-
-// A byte as a 32-bit number; callers then know that it is below 256.
-pub fn wide(x: u8) -> u32
-    ensures { (result ≡ x) × (result < 256) }
-{
-    u32::from(x)
-}

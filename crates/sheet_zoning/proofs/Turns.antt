@@ -1,12 +1,6 @@
 -- A loop through a list of zones: a zone further on, in the order of the list. Assumes nothing.
-use Prim.Native.Nat.{ℕ, zero, suc, ◌+◌, ◌-◌, ◌≤◌, ◌<◌}
-use mathlib.Core.Path.{◌≡◌, refl, sym, ◌∙◌, subst}
-use mathlib.Core.Bool.{true, false}
-use mathlib.Core.List.{List}
-use native.Mathlib.Nat.{zero-add, suc-add, add-suc, add-zero, sub-zero}
-use native.Mathlib.Numerals.{add-one}
-use native.Mathlib.Omega.{arith}
-use lib.IntN.{ℤ}
+use Rattle.std.proofs.Common.{ℕ, zero, suc, ◌+◌, ◌-◌, ◌≤◌, ◌<◌, ◌≡◌, refl, sym, ◌∙◌, subst, true, false, List, ℤ, arith, zero-add, add-one}
+use Rattle.std.proofs.Math.Nat.{suc-add, add-suc, add-zero, sub-zero}
 use Rattle.sheet_zones.specs.Zones.{Zone, zone_at, zone_count, zones_from, zones_of, holds, holding, zones_at, limited_by, limited}
 
 module _ (b : List ℕ) where
