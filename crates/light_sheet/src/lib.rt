@@ -15,6 +15,7 @@ ghost use Rattle.surface_bends.specs.Bends.{tally, counted, with_bends};
 ghost use Rattle.surface_zones.specs.Zoned.{zoned_outcome, zoned_answer, zoned_run_refusal, zoned_filled};
 
 use sheet_calls::refusal::Refusal;
+use sheet_layout::node::Node;
 use surface_answers::Answer;
 
 // Checks a sheet: Ok where it is accepted, else the first of the conditions 1 to 6 that holds.
@@ -53,7 +54,12 @@ pub fn set_node(
     ensures answer { refusal_number result ≡ setting_refusal sheet.old column row (node height x_slope y_slope) }
     ensures sheet { sheet.new ≡ with_node sheet.old column row (node height x_slope y_slope) }
 {
-    sheet_nodes::set_node(sheet, column, row, height, x_slope, y_slope)
+    let numbers = Node {
+        height,
+        x_slope,
+        y_slope,
+    };
+    sheet_nodes::set_node(sheet, column, row, numbers)
 }
 
 // Fills every slope of the sheet from its heights, with a stiffness from 0 to 64; or, refused (1 to 6, 12, 13), leaves the sheet as it was.

@@ -8,7 +8,6 @@ use lib.IntN.{ℤ}
 use lib.ListN.{length}
 use Rattle.surface_bends.specs.Bends.{touching_places, bends_refusal, tally, counted, with_bends}
 use Rattle.sheet_calls.specs.declared.refusal.Refusal.{Refusal}
-use Rattle.sheet_calls.proofs.Refused.{Named}
 use Rattle.surface_bends.proofs.Call.{counted_is, refused_is, bends_named}
 use Rattle.light_sheet_c.specs.Values.{count_over}
 use Rattle.light_sheet_demands.specs.CallRecords.{ListBends, BendsInto}

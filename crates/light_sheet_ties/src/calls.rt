@@ -73,7 +73,13 @@ pub fn zoned_level(sheet: &[u8], zones: &[u8], x: u32, y: u32) -> Result<i32, Re
     light_sheet::zoned_level(sheet, zones, x, y)
 }
 
-pub fn fill_zoned_run(sheet: &[u8], zones: &[u8], x: u32, y: u32, levels: &mut [i32]) -> Result<(), Refusal>
+pub fn fill_zoned_run(
+    sheet: &[u8],
+    zones: &[u8],
+    x: u32,
+    y: u32,
+    levels: &mut [i32],
+) -> Result<(), Refusal>
     ensures { FillZonedRun sheet.now zones.now x y levels.old (refusal_number result) levels.new sheet.exit.now zones.exit.now }
 {
     light_sheet::fill_zoned_run(sheet, zones, x, y, levels)
