@@ -38,7 +38,7 @@ impl Quadratic {
     }
 }
 
-// c₀ + c₁ r + c₂ s, the second.
+// c₀ + c₁ r + c₂ s, the second. A type of its own: a common one would share the field alone, and neither its bound nor its value.
 #[derive(Clone, Copy)]
 pub struct Linear {
     pub c: [i64; 3],

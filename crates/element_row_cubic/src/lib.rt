@@ -37,7 +37,7 @@ pub fn at_offset(row: [i64; 4], offset: usize) -> i64
     row[0] + a * (row[1] + a * (row[2] + a * row[3]))
 }
 
-// 2 W³ H³
+// 2 W³ H³, which is the cell's and no pixel's
 pub fn denominator(width: usize, height: usize) -> i64
     requires { Side width × Side height }
     ensures { result ≡ pos (2 * (cubes_of (cell width height)).number) }

@@ -17,15 +17,14 @@ ghost use Rattle.surface_bends.specs.Bends.{counted, with_bends};
 ghost use Rattle.surface_zones.specs.Zoned.{zoned_answer, zoned_run_refusal, zoned_filled};
 ghost use Rattle.light_sheet_c.specs.Values.{bits, over, count_over, level_over};
 
-use surface_bends::Listed;
-use surface_zones::Zoned;
+use sheet_calls::refusal::refusal_number;
 
 // Checks a sheet: 0 where it is accepted, else the number of the first of the conditions 1 to 6 that holds.
 pub fn lvs_check(sheet: &[u8]) -> u32
     ensures answer { result ≡ check_refusal sheet.now }
     ensures kept { sheet.exit.now ≡ sheet.now }
 {
-    light_sheet::check(sheet)
+    refusal_number(light_sheet::check(sheet))
 }
 
 // The number that refuses looking up the node at a column and row (1 to 6, 10), or 0.
@@ -33,7 +32,7 @@ pub fn lvs_node_refusal(sheet: &[u8], column: u32, row: u32) -> u32
     ensures answer { result ≡ lookup_refusal sheet.now column row }
     ensures kept { sheet.exit.now ≡ sheet.now }
 {
-    light_sheet::node_refusal(sheet, column, row)
+    refusal_number(light_sheet::node_refusal(sheet, column, row))
 }
 
 // Where the six bytes of the node at a column and row start in the sheet; or, refused, 0. C has no slices: this is the start of the part that `node` hands
@@ -42,10 +41,10 @@ pub fn lvs_node_offset(sheet: &[u8], column: u32, row: u32) -> usize
     ensures answer { result ≡ (looked_up sheet.now column row).start }
     ensures kept { sheet.exit.now ≡ sheet.now }
 {
-    if light_sheet::node_refusal(sheet, column, row) != 0 {
-        return 0;
+    match light_sheet::node_refusal(sheet, column, row) {
+        Ok(()) => sheet_layout::node_offset(sheet, column as usize, row as usize),
+        Err(_) => 0,
     }
-    sheet_layout::node_offset(sheet, column as usize, row as usize)
 }
 
 // Sets the node at a column and row to a height, in steps, and two slopes, in grains per pixel, and answers 0; or, refused (1 to 6, 10, 11), answers the
@@ -61,7 +60,7 @@ pub fn lvs_set_node(
     ensures answer { result ≡ setting_refusal sheet.old column row (node height x_slope y_slope) }
     ensures sheet { sheet.new ≡ with_node sheet.old column row (node height x_slope y_slope) }
 {
-    light_sheet::set_node(sheet, column, row, height, x_slope, y_slope)
+    refusal_number(light_sheet::set_node(sheet, column, row, height, x_slope, y_slope))
 }
 
 // Fills every slope of the sheet from its heights, with a stiffness from 0 to 64, and answers 0; or, refused (1 to 6, 12, 13), answers the number and leaves the
@@ -70,7 +69,7 @@ pub fn lvs_fill_slopes(sheet: &mut [u8], stiffness: u32) -> u32
     ensures answer { result ≡ slope_refusal sheet.old stiffness }
     ensures sheet { sheet.new ≡ with_slopes sheet.old stiffness }
 {
-    light_sheet::fill_slopes(sheet, stiffness)
+    refusal_number(light_sheet::fill_slopes(sheet, stiffness))
 }
 
 // Pools two sheets on the same lines into the target, each height and slope the sum of the two, and answers 0; or, refused (1 to 6 of the first sheet, 15, 16,
@@ -81,7 +80,7 @@ pub fn lvs_pool(first: &[u8], second: &[u8], target: &mut [u8]) -> u32
     ensures first { first.exit.now ≡ first.now }
     ensures second { second.exit.now ≡ second.now }
 {
-    light_sheet::pool(first, second, target)
+    refusal_number(light_sheet::pool(first, second, target))
 }
 
 // Reads at the pixel (x, y) into the first slots of `values`: kind 0 the level, one slot; 1 the tilt, two; 2 the bend, three; and answers 0. The slots
@@ -104,13 +103,12 @@ pub fn lvs_bends(sheet: &[u8], x: u32, y: u32, bends: &mut [i64], pieces: &mut u
     ensures pieces { pieces.new ≡ count_over (counted sheet.now x y (length bends.old)) pieces.old }
     ensures kept { sheet.exit.now ≡ sheet.now }
 {
-    let listed = light_sheet::bends(sheet, x, y, bends);
-    match listed {
-        Listed::Pieces(count) => {
+    match light_sheet::bends(sheet, x, y, bends) {
+        Ok(count) => {
             *pieces = count;
             0
         }
-        Listed::Refused(number) => number,
+        Err(refusal) => refusal.number(),
     }
 }
 
@@ -121,7 +119,7 @@ pub fn lvs_fill_run(sheet: &[u8], x: u32, y: u32, levels: &mut [i32]) -> u32
     ensures levels { levels.new ≡ filled sheet.now x y levels.old }
     ensures kept { sheet.exit.now ≡ sheet.now }
 {
-    light_sheet::fill_run(sheet, x, y, levels)
+    refusal_number(light_sheet::fill_run(sheet, x, y, levels))
 }
 
 // Writes the zoned level at the pixel (x, y), in grains, to `level`, and answers 0: the level, which each zone of the list that holds the pixel, in list order,
@@ -132,13 +130,12 @@ pub fn lvs_zoned_level(sheet: &[u8], zones: &[u8], x: u32, y: u32, level: &mut i
     ensures sheet { sheet.exit.now ≡ sheet.now }
     ensures zones { zones.exit.now ≡ zones.now }
 {
-    let zoned = light_sheet::zoned_level(sheet, zones, x, y);
-    match zoned {
-        Zoned::Level(grains) => {
+    match light_sheet::zoned_level(sheet, zones, x, y) {
+        Ok(grains) => {
             *level = grains;
             0
         }
-        Zoned::Refused(number) => number,
+        Err(refusal) => refusal.number(),
     }
 }
 
@@ -150,5 +147,5 @@ pub fn lvs_fill_zoned_run(sheet: &[u8], zones: &[u8], x: u32, y: u32, levels: &m
     ensures sheet { sheet.exit.now ≡ sheet.now }
     ensures zones { zones.exit.now ≡ zones.now }
 {
-    light_sheet::fill_zoned_run(sheet, zones, x, y, levels)
+    refusal_number(light_sheet::fill_zoned_run(sheet, zones, x, y, levels))
 }

@@ -1,4 +1,5 @@
 -- 02's #102, from the laws of the pieces that touch a pixel and of the list of their bends. Assumes nothing.
+use Rattle.std.proofs.Common.{Result, Ok}
 use Prim.Native.Nat.{ℕ, ◌+◌, ◌*◌, ◌-◌, ◌≤◌, ◌<◌}
 use mathlib.Core.Path.{◌≡◌, refl, sym, ◌∙◌, ap}
 use mathlib.Core.Logic.{inl, inr}
@@ -27,8 +28,7 @@ use Rattle.surface_bends.specs.Bends.{touching_places, entry_place, bends, bends
 use Rattle.surface_bends.specs.BendLaws.{Before, Among}
 use Rattle.surface_of_sheet.specs.Examples.{sevens}
 use Rattle.surface_bends.specs.Examples.{examples as table}
-use Rattle.surface_bends.specs.declared.Listed.{Listed}
-use Rattle.surface_bends.specs.declared.Listed.TheVariants.{Pieces}
+use Rattle.sheet_calls.specs.declared.refusal.Refusal.{Refusal}
 use Rattle.surface_bends.proofs.Examples.{examples}
 use Rattle.surface_bends.proofs.Laws.{touching_laws, bend_laws}
 use Rattle.light_sheet_demands.specs.CallRecords.{Read, ListBends}
@@ -71,7 +71,7 @@ module _ {s : List ℕ} {x y : ℕ} (a : Accepted s) (i : Inside s x y) where
 
 -- ---- a call that is not refused
 
-module _ {s t : List ℕ} {x y : ℕ} {buffer buffer' : List ℤ} {r : Listed} (c : ListBends s x y buffer r buffer' t) (z : (tally r).number ≡ 0) where
+module _ {s t : List ℕ} {x y : ℕ} {buffer buffer' : List ℤ} {r : Result ℕ Refusal} (c : ListBends s x y buffer r buffer' t) (z : (tally r).number ≡ 0) where
   held : Accepted s × Inside s x y × (24 ≤ length buffer)
   held = (bend_laws.taken s x y (length buffer)).0 (taken c z)
 
@@ -138,11 +138,11 @@ crossing : Accepted uneven_mesh × Inside uneven_mesh 7 6 × (24 ≤ 24)
 crossing = (bend_laws.taken uneven_mesh 7 6 24).0 no_refusal
 
 -- a call there is taken
-at_crossing : {t : List ℕ} {buffer buffer' : List ℤ} {r : Listed} → 24 ≤ length buffer → ListBends uneven_mesh 7 6 buffer r buffer' t → (tally r).number ≡ 0
+at_crossing : {t : List ℕ} {buffer buffer' : List ℤ} {r : Result ℕ Refusal} → 24 ≤ length buffer → ListBends uneven_mesh 7 6 buffer r buffer' t → (tally r).number ≡ 0
 at_crossing l c = c.answer ∙ (bend_laws.taken uneven_mesh 7 6 _).1 (crossing.0, crossing.1, l)
 
 -- its places hold the example's numbers
-at_slot : {t : List ℕ} {buffer buffer' : List ℤ} {r : Listed} → 24 ≤ length buffer → ListBends uneven_mesh 7 6 buffer r buffer' t → (k : ℕ) → k < 24 →
+at_slot : {t : List ℕ} {buffer buffer' : List ℤ} {r : Result ℕ Refusal} → 24 ≤ length buffer → ListBends uneven_mesh 7 6 buffer r buffer' t → (k : ℕ) → k < 24 →
     get_or buffer' k (pos 0) ≡ get_or (get_or (map (λ e. e.leaves) table) 8 []) k (pos 0)
 at_slot {buffer = buffer} l c k h =
     let in_list : k < length (bends uneven_mesh 7 6) = omega (arith, bend_laws.size uneven_mesh 7 6, ap length examples.eight) in
@@ -161,7 +161,7 @@ both_sides = record {
   taken = λ c. rw c.answer (bend_laws.taken _ _ _ _);
   count = λ c z. rw (pieces_are c z) (listed_is c z);
   answers = (bend_laws.of_pieces, bend_laws.of_refused);
-  eight = λ l c. listed_is c (at_crossing l c) ∙ ap (λ l. Pieces (length l)) examples.eight;
+  eight = λ l c. listed_is c (at_crossing l c) ∙ ap (λ l. Ok (length l)) examples.eight;
   jump = λ l c e.
       let same : − 10848 ≡ + 3024 = sym (at_slot l c 0 (omega arith)) ∙ e ∙ at_slot l c 6 (omega arith) in
       absurd (let no : ◌≡◌ {A = ℕ} 0 1 = cc in omega arith);

@@ -11,7 +11,7 @@ use Rattle.sheet_calls.proofs.Setting.{setting_laws}
 use Rattle.sheet_slopes.proofs.Laws.{slope_laws}
 use Rattle.sheet_pool.proofs.Laws.{pool_laws}
 use Rattle.surface_of_sheet.proofs.Runs.{run_laws}
-use Rattle.surface_bends.specs.declared.Listed.TheVariants.{Refused}
+use Rattle.sheet_calls.specs.Refused.{RefusedWith}
 use Rattle.surface_bends.proofs.Laws.{bend_laws}
 use Rattle.surface_zones.proofs.Laws.{zoned_laws}
 use Rattle.light_sheet_c.proofs.Stored.{over_size, over_behind}
@@ -76,7 +76,7 @@ demand_one = record {
   zoned_run = zoned_run_gives;
   refused_reading = λ c. refused_reading_lem c;
   no_values = no_values_lem;
-  refused_bends = λ c e h. refused_list c (λ z. h (sym e ∙ z)) ∙ ap Refused e;
+  refused_bends = λ c e h. subst (RefusedWith _) e (refused_list c (λ z. h (sym e ∙ z)));
   refused_zoned = λ c. refused_level c;
   empty_part = λ c d h.
       let p = subst (Part _ _) (lookup_laws.refused _ _ _ (λ e. h (d.answer ∙ e))) c.part in

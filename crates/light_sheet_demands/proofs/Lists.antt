@@ -1,4 +1,5 @@
 -- What listing bends gives and leaves, by its record: how many pieces, or the refusal, and the buffer. Assumes nothing.
+use Rattle.std.proofs.Common.{Result, Ok, subst}
 use Prim.Native.Nat.{ℕ, ◌*◌, ◌≤◌}
 use mathlib.Core.Path.{◌≡◌, refl, sym, ◌∙◌, ap}
 use mathlib.Core.List.{List}
@@ -7,8 +8,8 @@ use borrow.Author.Tests.{eq-eqb, ne_eqb}
 use lib.IntN.{ℤ}
 use lib.ListN.{length, get_or}
 use Rattle.surface_bends.specs.Bends.{touching_places, bends_refusal, Tally, tally, counted}
-use Rattle.surface_bends.specs.declared.Listed.{Listed}
-use Rattle.surface_bends.specs.declared.Listed.TheVariants.{Pieces, Refused}
+use Rattle.sheet_calls.specs.declared.refusal.Refusal.{Refusal}
+use Rattle.sheet_calls.specs.Refused.{RefusedWith}
 use Rattle.surface_bends.proofs.Laws.{bend_laws}
 use Rattle.surface_bends.proofs.Call.{counted_is, refused_is}
 use Rattle.light_sheet_c.specs.Values.{count_over}
@@ -21,7 +22,7 @@ counted_number s x y places = elim (ℕ_discrete (bends_refusal s x y places) 0)
   | no h ↦ rw (refused_is s x y places h) refl
 ]
 
-module _ {s t : List ℕ} {x y : ℕ} {buffer buffer' : List ℤ} {r : Listed} (c : ListBends s x y buffer r buffer' t) where
+module _ {s t : List ℕ} {x y : ℕ} {buffer buffer' : List ℤ} {r : Result ℕ Refusal} (c : ListBends s x y buffer r buffer' t) where
   tally_is : tally r ≡ counted s x y (length buffer)
   tally_is = λ i. record { number = (c.answer ∙ sym (counted_number s x y (length buffer))) i; pieces = c.pieces i }
 
@@ -30,8 +31,8 @@ module _ {s t : List ℕ} {x y : ℕ} {buffer buffer' : List ℤ} {r : Listed} (
     declined : ¬ (bends_refusal s x y (length buffer) ≡ 0)
     declined e = h (c.answer ∙ e)
 
-    pub refused_list : r ≡ Refused (tally r).number
-    refused_list = bend_laws.refused s x y (length buffer) declined r tally_is ∙ ap Refused (sym c.answer)
+    pub refused_list : RefusedWith r (tally r).number
+    refused_list = subst (RefusedWith r) (sym c.answer) (bend_laws.refused s x y (length buffer) declined r tally_is)
 
     pub buffer_kept : buffer' ≡ buffer
     buffer_kept = c.list ∙ bend_laws.untouched s x y buffer declined
@@ -44,7 +45,7 @@ module _ {s t : List ℕ} {x y : ℕ} {buffer buffer' : List ℤ} {r : Listed} (
     pub pieces_are : (tally r).pieces ≡ length (touching_places s x y)
     pieces_are = ap (λ (t : Tally). t.pieces) (tally_is ∙ counted_is s x y (length buffer) taken)
 
-    pub listed_is : r ≡ Pieces (length (touching_places s x y))
+    pub listed_is : r ≡ Ok (length (touching_places s x y))
     listed_is = bend_laws.pieces s x y (length buffer) taken r tally_is
 
   pub behind_list : (k : ℕ) → 3 * (tally r).pieces ≤ k → (z : ℤ) → get_or buffer' k z ≡ get_or buffer k z

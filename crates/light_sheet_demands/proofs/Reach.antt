@@ -1,4 +1,5 @@
 -- 02's #105, from the laws of a nudged sheet and of a node's reach. Assumes nothing.
+use Rattle.std.proofs.Common.{Result, Ok, Err, refl}
 use Prim.Native.Nat.{ℕ, ◌≤◌, ◌<◌}
 use mathlib.Core.Path.{◌≡◌, sym, ◌∙◌, ap}
 use mathlib.Core.Logic.Iff
@@ -13,8 +14,10 @@ use Rattle.sheet_calls.specs.Refusals.{no_node, Accepted, sheet_rules}
 use Rattle.sheet_calls.proofs.Rules.{nonzero}
 use Rattle.sheet_calls.proofs.Conditions.{condition_laws}
 use Rattle.sheet_reach.specs.Reach.{outermost, sheet_in, column_in, row_in, too_short, reach_rules, reach_refusal, ReachAnswer, told, reach_answer}
-use Rattle.sheet_reach.specs.declared.Reach.{Reach}
-use Rattle.sheet_reach.specs.declared.Reach.TheVariants.{Lines, Refused}
+use Rattle.sheet_reach.specs.declared.OuterLines.{OuterLines}
+use Rattle.sheet_calls.specs.declared.refusal.Refusal.{Refusal}
+use Rattle.sheet_calls.specs.Refused.{RefusedWith}
+use Rattle.sheet_calls.proofs.Refused.{number-injective}
 use Rattle.sheet_reach.proofs.Laws.{reach_laws}
 use Rattle.sheet_reach.proofs.Refused.{number_is}
 use Rattle.surface_reach.proofs.Laws.{nudged_levels}
@@ -27,33 +30,33 @@ use Rattle.light_sheet_demands.proofs.Nudged.{nudged_node, follows_steps}
 
 -- ---- the answer, by its number and its positions
 
-told_lines : (r : Reach) {a b c d : ℕ} → (told r).positions ≡ a ∷ b ∷ c ∷ d ∷ [] → r ≡ Lines a b c d
+told_lines : (r : Result OuterLines Refusal) {a b c d : ℕ} → (told r).positions ≡ a ∷ b ∷ c ∷ d ∷ [] → r ≡ Ok (record { left = a; top = b; right = c; bottom = d })
 unfolding told
-told_lines (Lines a b c d) e = λ t. Lines (get_or (e t) 0 0) (get_or (e t) 1 0) (get_or (e t) 2 0) (get_or (e t) 3 0)
-told_lines (Refused n) e = absurd (let none : 0 ≡ 4 = ap length e in omega arith)
+told_lines (Ok lines) e = λ t. Ok (record { left = get_or (e t) 0 0; top = get_or (e t) 1 0; right = get_or (e t) 2 0; bottom = get_or (e t) 3 0 })
+told_lines (Err x) e = absurd (let none : 0 ≡ 4 = ap length e in omega arith)
 
-told_refused : (r : Reach) {n : ℕ} → (told r).number ≡ n → (told r).positions ≡ [] → r ≡ Refused n
+told_refused : (r : Result OuterLines Refusal) {n : ℕ} → (told r).number ≡ n → (told r).positions ≡ [] → RefusedWith r n
 unfolding told
-told_refused (Lines a b c d) e f = absurd (let four : 4 ≡ 0 = ap length f in omega arith)
-told_refused (Refused n) e f = ap Refused e
+told_refused (Ok lines) e f = absurd (let four : 4 ≡ 0 = ap length f in omega arith)
+told_refused (Err x) e f = record { refusal = x; is = refl; numbered = e }
 
 -- they tell it
-told_same : (q r : Reach) → (told q).number ≡ (told r).number → (told q).positions ≡ (told r).positions → q ≡ r
+told_same : (q r : Result OuterLines Refusal) → (told q).number ≡ (told r).number → (told q).positions ≡ (told r).positions → q ≡ r
 unfolding told
-told_same q (Lines a b c d) e f = told_lines q f
-told_same q (Refused n) e f = told_refused q e f
+told_same q (Ok lines) e f = told_lines q f
+told_same q (Err x) e f = let w = told_refused q e f in w.is ∙ ap Err (number-injective _ _ w.numbered)
 
 -- ---- the program's worker
 
-module _ {input t : List ℕ} {r : Reach} (c : ReachOf input r t) where
+module _ {input t : List ℕ} {r : Result OuterLines Refusal} (c : ReachOf input r t) where
   refusals : Gives of_reach input (told r).number
   unfolding nonzero sheet_rules reach_rules reach_refusal
   refusals = gives _ _ tt c.answer
 
-  refused : {n : ℕ} → (told r).number ≡ n → ¬ (n ≡ 0) → r ≡ Refused n
+  refused : {n : ℕ} → (told r).number ≡ n → ¬ (n ≡ 0) → RefusedWith r n
   refused e h = told_refused r e (c.positions ∙ ap (λ (a : ReachAnswer). a.positions) (reach_laws.refused input (λ z. h (sym e ∙ c.answer ∙ z))))
 
-  short : length input < 2 → r ≡ Refused 1
+  short : length input < 2 → RefusedWith r 1
   short l = refused (c.answer ∙ reach_laws.short input l) (λ e. omega (arith, e))
 
   gives_ten_lem : ((told r).number ≡ 10) ↔

@@ -1,4 +1,5 @@
 -- The numbers that calls give, by their records: each is that of the first condition of the call's list to hold. Assumes nothing.
+use Rattle.std.proofs.Common.{Result}
 use Prim.Native.Nat.{ℕ}
 use mathlib.Core.Path.{◌≡◌, refl}
 use mathlib.Core.Logic.{inl, inr}
@@ -20,9 +21,8 @@ use Rattle.surface_answers.specs.declared.Answer.{Answer}
 use Rattle.surface_of_sheet.specs.Read.{read}
 use Rattle.surface_of_sheet.proofs.Answered.{taken_is, refused_is}
 use Rattle.surface_bends.specs.Bends.{bends_rules, bends_refusal, tally}
-use Rattle.surface_bends.specs.declared.Listed.{Listed}
+use Rattle.sheet_calls.specs.declared.refusal.Refusal.{Refusal}
 use Rattle.surface_zones.specs.Zoned.{zoned_rules, zoned_refusal, zoned_outcome, zoned_run_rules, zoned_run_refusal}
-use Rattle.surface_zones.specs.declared.Zoned.{Zoned}
 use Rattle.light_sheet_demands.specs.CallRecords.{Check, NodeRefusal, SetNode, FillSlopes, Pool, Read, ListBends, FillRun, ZonedLevel, FillZonedRun}
 use Rattle.light_sheet_demands.specs.Demands.{FirstHolds, NoneHolds, Gives, of_check, of_lookup, of_setting, of_slopes, of_pool, of_reading, of_bends, of_run, of_zoned_level, of_zoned_run, AcceptedMeans}
 
@@ -84,7 +84,7 @@ pub reading_gives : {s t : List ℕ} {x y kind : ℕ} {r : Answer} → Read s x 
 unfolding nonzero sheet_rules reading_rules reading_refusal
 reading_gives c = gives _ _ tt c.answer
 
-pub bends_gives : {s t : List ℕ} {x y : ℕ} {buffer buffer' : List ℤ} {r : Listed} → ListBends s x y buffer r buffer' t →
+pub bends_gives : {s t : List ℕ} {x y : ℕ} {buffer buffer' : List ℤ} {r : Result ℕ Refusal} → ListBends s x y buffer r buffer' t →
     Gives of_bends (record { sheet = s; x = x; y = y; places = length buffer }) (tally r).number
 unfolding nonzero sheet_rules bends_rules bends_refusal
 bends_gives c = gives _ _ tt c.answer
@@ -94,7 +94,7 @@ pub run_gives : {s t : List ℕ} {x y n : ℕ} {row row' : List ℤ} → FillRun
 unfolding nonzero sheet_rules run_rules run_refusal
 run_gives c = gives _ _ tt c.answer
 
-pub zoned_gives : {s b t b' : List ℕ} {x y : ℕ} {r : Zoned} → ZonedLevel s b x y r t b' →
+pub zoned_gives : {s b t b' : List ℕ} {x y : ℕ} {r : Result ℤ Refusal} → ZonedLevel s b x y r t b' →
     Gives of_zoned_level (record { sheet = s; zones = b; x = x; y = y }) (zoned_outcome r).number
 unfolding nonzero sheet_rules zone_rules zoned_rules zoned_refusal
 zoned_gives c = gives _ _ tt c.answer

@@ -1,4 +1,5 @@
 -- When a zoned level and a zoned run give 18, 19 and 0: where the plain call is taken, by what the list of zones is. Assumes nothing.
+use Rattle.std.proofs.Common.{Result}
 use Prim.Native.Nat.{ℕ}
 use mathlib.Core.Path.{◌≡◌, sym, subst}
 use mathlib.Core.Logic.Iff
@@ -16,7 +17,7 @@ use Rattle.sheet_zones.proofs.Conditions.{eighteen, nineteen}
 use Rattle.surface_answers.specs.Answers.{outcome}
 use Rattle.surface_answers.specs.declared.Answer.{Answer}
 use Rattle.surface_zones.specs.Zoned.{ZonedInput, ZonedRunInput, zoned_outcome}
-use Rattle.surface_zones.specs.declared.Zoned.{Zoned}
+use Rattle.sheet_calls.specs.declared.refusal.Refusal.{Refusal}
 use Rattle.light_sheet_demands.specs.CallRecords.{Read, FillRun, ZonedLevel, FillZonedRun}
 use Rattle.light_sheet_demands.specs.Demands.{NoneHolds, Gives, of_sheet}
 use Rattle.light_sheet_demands.proofs.Refusals.{reading_gives, run_gives, zoned_gives, zoned_run_gives}
@@ -64,7 +65,7 @@ module _ {Input : Type 0} (zones : Input → List ℕ) where
 abbrev level_rules : List (Rule ZonedInput)
 level_rules = of_sheet (λ u. u.sheet) ++ rule 7 (λ u. outside u.sheet u.x u.y) ∷ []
 
-module _ {s b t u b' : List ℕ} {x y : ℕ} {a : Answer} {r : Zoned} (c : Read s x y 0 a u) (d : ZonedLevel s b x y r t b') where
+module _ {s b t u b' : List ℕ} {x y : ℕ} {a : Answer} {r : Result ℤ Refusal} (c : Read s x y 0 a u) (d : ZonedLevel s b x y r t b') where
   -- a reading has one rule more, that of its kind, and 0 is a kind
   plain_level : NoneHolds level_rules (record { sheet = s; zones = b; x = x; y = y }) ↔ ((outcome a).number ≡ 0)
   plain_level = let taken = (reading_gives c).taken in (

@@ -1,4 +1,5 @@
 -- 02's #106, from the laws of zones and of zoned levels and runs. Assumes nothing.
+use Rattle.std.proofs.Common.{Result, Ok}
 use Prim.Native.Nat.{ℕ, ◌+◌, ◌≤◌, ◌<◌}
 use mathlib.Core.Path.{◌≡◌, refl, sym, ◌∙◌, ap, subst}
 use mathlib.Core.List.{List}
@@ -11,8 +12,7 @@ use Rattle.sheet_zones.proofs.Last.{none_held, last_held}
 use Rattle.sheet_zones.proofs.Laws.{list_laws, limit_laws}
 use Rattle.surface_of_sheet.specs.Surface.{level}
 use Rattle.surface_zones.specs.Zoned.{zoned_level, zoned_refusal}
-use Rattle.surface_zones.specs.declared.Zoned.{Zoned}
-use Rattle.surface_zones.specs.declared.Zoned.TheVariants.{Level}
+use Rattle.sheet_calls.specs.declared.refusal.Refusal.{Refusal}
 use Rattle.surface_zones.proofs.Chain.{zoned_run_held}
 use Rattle.surface_zones.proofs.Filled.{plain_refusal}
 use Rattle.surface_zones.proofs.Levels.{none, last, bounded}
@@ -55,8 +55,8 @@ module _ {s b t b' : List ℕ} {x y : ℕ} {row row' : List ℤ} (c : FillZonedR
   taken_there : zoned_refusal s b (x + k) y ≡ 0
   taken_there = let (h, valid) = zoned_run_held s b x y (length row) (sym c.answer) in (zoned_laws.taken s b (x + k) y).1 (h.accepted, h.each k l, valid)
 
-  slot_given : {u c' : List ℕ} {r : Zoned} → ZonedLevel s b (x + k) y r u c' → r ≡ Level (get_or row' k (pos 0))
-  slot_given d = level_is d (d.answer ∙ taken_there) ∙ ap Level (sym slot_is)
+  slot_given : {u c' : List ℕ} {r : Result ℤ Refusal} → ZonedLevel s b (x + k) y r u c' → r ≡ Ok (get_or row' k (pos 0))
+  slot_given d = level_is d (d.answer ∙ taken_there) ∙ ap Ok (sym slot_is)
 
   slot_pixel : {u : List ℕ} {n : ℕ} {plain plain' : List ℤ} → FillRun s x y plain n plain' u → length plain ≡ length row →
       ZonedPixel b (x + k) y (get_or plain' k (pos 0)) (get_or row' k (pos 0))

@@ -1,6 +1,6 @@
 -- 02's request #102, "Both sides of a crease", sentence by sentence, of whatever `bends` may give and leave, and `lvs_bends`; when it is refused, and which
 -- places of the buffer it leaves alone, demand 1 says too. What a piece's triangle is, demand 3 says (`covering`). Assumes nothing.
-use Rattle.std.specs.Prelude.{ℕ, suc, ◌+◌, ◌*◌, ◌≤◌, ◌<◌, ◌≡◌, ◌↔◌, List, [], ◌∷◌, false, ℤ, pos, length, get_or}
+use Rattle.std.specs.Prelude.{ℕ, suc, ◌+◌, ◌*◌, ◌≤◌, ◌<◌, ◌≡◌, ◌↔◌, List, [], ◌∷◌, false, ℤ, pos, length, get_or, Result, Ok, Err}
 use Rattle.element_sibson.specs.Fraction.{positive, ◌≈◌, complement, whole, half, ◌-ℚ◌, ◌·ℚ◌}
 use Rattle.element_sibson.specs.Cubic.{◌≋◌}
 use Rattle.element_sibson.specs.Piece.{number}
@@ -15,8 +15,8 @@ use Rattle.surface_of_sheet.specs.Place.{HasCell, Place, point_at, columns_at, r
 use Rattle.surface_of_sheet.specs.Touching.{Touches, CellLaws, PlaceLaws}
 use Rattle.surface_bends.specs.Bends.{entry_place, bends, too_few, tally}
 use Rattle.surface_bends.specs.BendLaws.{Before}
-use Rattle.surface_bends.specs.declared.Listed.{Listed}
-use Rattle.surface_bends.specs.declared.Listed.TheVariants.{Pieces, Refused}
+use Rattle.sheet_calls.specs.declared.refusal.Refusal.{Refusal}
+use Rattle.sheet_calls.specs.Refused as refused
 use Rattle.light_sheet_demands.specs.CallRecords.{Read, ListBends, BendsInto}
 use Rattle.light_sheet_demands.specs.Demands.{place_jet, place_bend, pixel_jet, given}
 
@@ -72,20 +72,20 @@ pub record BendList (s : List ℕ) (x y : ℕ) (buffer : List ℤ) (pieces : ℕ
 
 pub record BothSides : Type 0 where
   -- a call that is not refused; in C the count is the one that is left
-  pub lists : {s t : List ℕ} {x y : ℕ} {buffer buffer' : List ℤ} {r : Listed} → ListBends s x y buffer r buffer' t → (tally r).number ≡ 0 →
+  pub lists : {s t : List ℕ} {x y : ℕ} {buffer buffer' : List ℤ} {r : Result ℕ Refusal} → ListBends s x y buffer r buffer' t → (tally r).number ≡ 0 →
       BendList s x y buffer (tally r).pieces buffer'
   pub in_c : {s t : List ℕ} {x y count count' : ℕ} {buffer buffer' : List ℤ} → BendsInto s x y buffer count 0 buffer' count' t →
       BendList s x y buffer count' buffer'
   -- it is taken at every pixel of an accepted sheet's mesh, with 24 places or more
-  pub taken : {s t : List ℕ} {x y : ℕ} {buffer buffer' : List ℤ} {r : Listed} → ListBends s x y buffer r buffer' t →
+  pub taken : {s t : List ℕ} {x y : ℕ} {buffer buffer' : List ℤ} {r : Result ℕ Refusal} → ListBends s x y buffer r buffer' t →
       ((tally r).number ≡ 0) ↔ (Accepted s × Inside s x y × (24 ≤ length buffer))
   -- "and the count of pieces, told apart from a refusal, is returned.": which number and count each case of the answer has
-  pub count : {s t : List ℕ} {x y : ℕ} {buffer buffer' : List ℤ} {r : Listed} → ListBends s x y buffer r buffer' t → (tally r).number ≡ 0 →
-      r ≡ Pieces (tally r).pieces
-  pub answers : ((k : ℕ) → tally (Pieces k) ≡ record { number = 0; pieces = k }) × ((n : ℕ) → tally (Refused n) ≡ record { number = n; pieces = 0 })
+  pub count : {s t : List ℕ} {x y : ℕ} {buffer buffer' : List ℤ} {r : Result ℕ Refusal} → ListBends s x y buffer r buffer' t → (tally r).number ≡ 0 →
+      r ≡ Ok (tally r).pieces
+  pub answers : ((k : ℕ) → tally (Ok k) ≡ record { number = 0; pieces = k }) × ((e : Refusal) → tally (Err e) ≡ record { number = refused.number e; pieces = 0 })
   -- there are pixels with eight pieces, as where the inner lines of this sheet of four cells cross; "since bends jump there": xx to the left, and to the right
-  pub eight : {t : List ℕ} {buffer buffer' : List ℤ} {r : Listed} → 24 ≤ length buffer → ListBends uneven_mesh 7 6 buffer r buffer' t → r ≡ Pieces 8
-  pub jump : {t : List ℕ} {buffer buffer' : List ℤ} {r : Listed} → 24 ≤ length buffer → ListBends uneven_mesh 7 6 buffer r buffer' t →
+  pub eight : {t : List ℕ} {buffer buffer' : List ℤ} {r : Result ℕ Refusal} → 24 ≤ length buffer → ListBends uneven_mesh 7 6 buffer r buffer' t → r ≡ Ok 8
+  pub jump : {t : List ℕ} {buffer buffer' : List ℤ} {r : Result ℕ Refusal} → 24 ≤ length buffer → ListBends uneven_mesh 7 6 buffer r buffer' t →
       ¬ (get_or buffer' 0 (pos 0) ≡ get_or buffer' 6 (pos 0))
   -- "Finding a pixel's place must therefore give the lowest and highest cell along each axis, and every caller lives with that." The code's `find` gives these;
   -- a cell has the pixel in it, its edges counted, exactly when it lies from the lowest to the highest; and the place that is read is taken from them

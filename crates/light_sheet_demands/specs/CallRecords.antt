@@ -1,7 +1,7 @@
 -- What the public calls of crates/light_sheet and crates/light_sheet_c, and the workers of a run and of the program `reach`, give and leave, in records that
 -- the demands speak of; crates/light_sheet_ties shows that each meets its own. In a record s is the sheet, or the slice, that is lent, and t what the sheet
 -- holds at the call's end. Assumes nothing.
-use Rattle.std.specs.Prelude.{ℕ, ◌≡◌, List, ℤ, length}
+use Rattle.std.specs.Prelude.{ℕ, ◌≡◌, List, ℤ, length, Result}
 use Rattle.std.specs.Borrow.{Bor}
 use Rattle.sheet_layout.specs.Format.{Node}
 use Rattle.sheet_calls.specs.Refusals.{check_refusal, lookup_refusal, setting_refusal, reading_refusal, run_refusal}
@@ -9,15 +9,14 @@ use Rattle.sheet_calls.specs.Calls.{Part, looked_up, with_node}
 use Rattle.sheet_slopes.specs.Slopes.{slope_refusal, with_slopes}
 use Rattle.sheet_pool.specs.Pool.{pool_refusal, with_pool}
 use Rattle.sheet_reach.specs.Reach.{reach_refusal, told, reach_answer}
-use Rattle.sheet_reach.specs.declared.Reach.{Reach}
+use Rattle.sheet_reach.specs.declared.OuterLines.{OuterLines}
 use Rattle.surface_answers.specs.Answers.{outcome}
 use Rattle.surface_answers.specs.declared.Answer.{Answer}
 use Rattle.surface_of_sheet.specs.Read.{read}
 use Rattle.surface_of_sheet.specs.Run.{after_steps, filled}
 use Rattle.surface_bends.specs.Bends.{bends_refusal, tally, counted, with_bends}
-use Rattle.surface_bends.specs.declared.Listed.{Listed}
+use Rattle.sheet_calls.specs.declared.refusal.Refusal.{Refusal}
 use Rattle.surface_zones.specs.Zoned.{zoned_refusal, zoned_outcome, zoned_answer, zoned_run_refusal, zoned_filled}
-use Rattle.surface_zones.specs.declared.Zoned.{Zoned}
 use Rattle.light_sheet_c.specs.Values.{bits, over, count_over, level_over}
 
 -- `check` gives n
@@ -59,7 +58,7 @@ pub record Read (s : List ℕ) (x y kind : ℕ) (r : Answer) (t : List ℕ) : Ty
   pub sheet : t ≡ s
 
 -- `bends` on the buffer gives r, by the answer's definition its number and its count of pieces, and leaves buffer'
-pub record ListBends (s : List ℕ) (x y : ℕ) (buffer : List ℤ) (r : Listed) (buffer' : List ℤ) (t : List ℕ) : Type 0 where
+pub record ListBends (s : List ℕ) (x y : ℕ) (buffer : List ℤ) (r : Result ℕ Refusal) (buffer' : List ℤ) (t : List ℕ) : Type 0 where
   pub answer : (tally r).number ≡ bends_refusal s x y (length buffer)
   pub pieces : (tally r).pieces ≡ (counted s x y (length buffer)).pieces
   pub list : buffer' ≡ with_bends s x y buffer
@@ -73,7 +72,7 @@ pub record FillRun (s : List ℕ) (x y : ℕ) (row : List ℤ) (n : ℕ) (row' :
 
 -- `zoned_level` with the zones b gives r, by the answer's definition its number and its levels, one or none; b' is what the list of zones holds at the call's
 -- end
-pub record ZonedLevel (s b : List ℕ) (x y : ℕ) (r : Zoned) (t b' : List ℕ) : Type 0 where
+pub record ZonedLevel (s b : List ℕ) (x y : ℕ) (r : Result ℤ Refusal) (t b' : List ℕ) : Type 0 where
   pub answer : (zoned_outcome r).number ≡ zoned_refusal s b x y
   pub levels : (zoned_outcome r).levels ≡ (zoned_answer s b x y).levels
   pub sheet : t ≡ s
@@ -92,7 +91,7 @@ pub record RunSteps (s : List ℕ) (x y : ℕ) (row : List ℤ) (budget : ℕ) (
   pub sheet : t ≡ s
 
 -- the worker of the program `reach`, `sheet_reaching::reach`, on all bytes that are read gives r: by the answer's definition its number and its positions
-pub record ReachOf (input : List ℕ) (r : Reach) (t : List ℕ) : Type 0 where
+pub record ReachOf (input : List ℕ) (r : Result OuterLines Refusal) (t : List ℕ) : Type 0 where
   pub answer : (told r).number ≡ reach_refusal input
   pub positions : (told r).positions ≡ (reach_answer input).positions
   pub bytes : t ≡ input
@@ -114,7 +113,7 @@ pub record ReadInto (s : List ℕ) (x y kind : ℕ) (array : List ℕ) (n : ℕ)
 -- `lvs_bends` on a lent buffer and a lent count gives n and leaves buffer' and count': what `bends` leaves, its refusal's number or 0, and, where 0, its count
 -- of pieces
 pub record BendsInto (s : List ℕ) (x y : ℕ) (buffer : List ℤ) (count n : ℕ) (buffer' : List ℤ) (count' : ℕ) (t : List ℕ) : Type 0 where
-  pub listed : Listed
+  pub listed : Result ℕ Refusal
   pub is_listed : ListBends s x y buffer listed buffer' t
   pub answer : n ≡ (tally listed).number
   pub pieces : count' ≡ count_over (tally listed) count
@@ -122,7 +121,7 @@ pub record BendsInto (s : List ℕ) (x y : ℕ) (buffer : List ℤ) (count n : �
 -- `lvs_zoned_level` with the zones b, on a lent place that holds `held`, gives n and leaves held' there: the refusal's number or 0, and, where 0, the zoned
 -- level
 pub record ZonedLevelInto (s b : List ℕ) (x y : ℕ) (held : ℤ) (n : ℕ) (held' : ℤ) (t b' : List ℕ) : Type 0 where
-  pub zoned : Zoned
+  pub zoned : Result ℤ Refusal
   pub is_zoned : ZonedLevel s b x y zoned t b'
   pub answer : n ≡ (zoned_outcome zoned).number
   pub level : held' ≡ level_over (zoned_outcome zoned) held

@@ -1,6 +1,6 @@
 -- The customer's three demands, sentence by sentence. They speak of whatever the calls of crates/light_sheet, and those for C, may give and leave; the records
 -- of CallRecords say what that is. Assumes nothing.
-use Rattle.std.specs.Prelude.{ℕ, suc, ◌+◌, ◌*◌, ◌^◌, ◌≤◌, ◌<◌, ◌≡◌, ◌↔◌, ◌⊎◌, List, [], ◌∷◌, ◌++◌, map, true, false, T, ℤ, pos, neg_ℤ, ◌+ℤ◌, ◌*ℤ◌, ◌<ℤ◌, length, get_or, take, Float}
+use Rattle.std.specs.Prelude.{ℕ, suc, ◌+◌, ◌*◌, ◌^◌, ◌≤◌, ◌<◌, ◌≡◌, ◌↔◌, ◌⊎◌, List, [], ◌∷◌, ◌++◌, map, true, false, T, ℤ, pos, neg_ℤ, ◌+ℤ◌, ◌*ℤ◌, ◌<ℤ◌, length, get_or, take, Float, Result, Ok}
 use Rattle.std.specs.Borrow.{Bor}
 use Rattle.std.specs.Float.{fin, binary64}
 use Rattle.std.specs.Float.Ieee.{of_bits, to_bits}
@@ -32,11 +32,9 @@ use Rattle.surface_of_sheet.specs.Surface.{nodes_of, set_of}
 use Rattle.surface_of_sheet.specs.Touching.{PlaceLaws}
 use Rattle.surface_of_sheet.specs.Theorems.{HalfUnitsFrom}
 use Rattle.surface_bends.specs.Bends.{too_few, BendsInput, tally}
-use Rattle.surface_bends.specs.declared.Listed.{Listed}
-use Rattle.surface_bends.specs.declared.Listed.TheVariants as listed
+use Rattle.sheet_calls.specs.declared.refusal.Refusal.{Refusal}
+use Rattle.sheet_calls.specs.Refused.{RefusedWith}
 use Rattle.surface_zones.specs.Zoned.{ZonedInput, ZonedRunInput, zoned_outcome}
-use Rattle.surface_zones.specs.declared.Zoned.{Zoned}
-use Rattle.surface_zones.specs.declared.Zoned.TheVariants as zoned
 use Rattle.light_sheet_demands.specs.CallRecords.{Check, NodeRefusal, NodeCall, SetNode, FillSlopes, Pool, Read, ListBends, FillRun, ZonedLevel, FillZonedRun, NodeOffset, ReadInto, BendsInto, ZonedLevelInto}
 
 -- ---- demand 1
@@ -115,12 +113,12 @@ pub record DemandOne : Type 0 where
   pub kept_by_node : {s r : Bor (List ℕ)} {t : List ℕ} {i j : ℕ} → NodeCall s i j r t → t ≡ s.now
   pub kept_by_read : {s t : List ℕ} {x y kind : ℕ} {r : Answer} → Read s x y kind r t → t ≡ s
   pub kept_by_fill_run : {s t : List ℕ} {x y n : ℕ} {row row' : List ℤ} → FillRun s x y row n row' t → t ≡ s
-  pub kept_by_bends : {s t : List ℕ} {x y : ℕ} {buffer buffer' : List ℤ} {r : Listed} → ListBends s x y buffer r buffer' t → t ≡ s
+  pub kept_by_bends : {s t : List ℕ} {x y : ℕ} {buffer buffer' : List ℤ} {r : Result ℕ Refusal} → ListBends s x y buffer r buffer' t → t ≡ s
   pub kept_by_pool : {a b target p a' b' : List ℕ} {n : ℕ} → Pool a b target n p a' b' → (a' ≡ a) × (b' ≡ b)
   pub kept_by_node_offset : {s t : List ℕ} {i j k : ℕ} → NodeOffset s i j k t → t ≡ s
   pub kept_by_read_into : {s t : List ℕ} {x y kind n : ℕ} {array array' : List ℕ} → ReadInto s x y kind array n array' t → t ≡ s
   pub kept_by_bends_into : {s t : List ℕ} {x y count n count' : ℕ} {buffer buffer' : List ℤ} → BendsInto s x y buffer count n buffer' count' t → t ≡ s
-  pub kept_by_zoned_level : {s b t b' : List ℕ} {x y : ℕ} {r : Zoned} → ZonedLevel s b x y r t b' → (t ≡ s) × (b' ≡ b)
+  pub kept_by_zoned_level : {s b t b' : List ℕ} {x y : ℕ} {r : Result ℤ Refusal} → ZonedLevel s b x y r t b' → (t ≡ s) × (b' ≡ b)
   pub kept_by_zoned_run : {s b t b' : List ℕ} {x y n : ℕ} {row row' : List ℤ} → FillZonedRun s b x y row n row' t b' → (t ≡ s) × (b' ≡ b)
   pub kept_by_zoned_into : {s b t b' : List ℕ} {x y n : ℕ} {held held' : ℤ} → ZonedLevelInto s b x y held n held' t b' → (t ≡ s) × (b' ≡ b)
   -- `set_node` is there to write the six bytes of a node, `fill_slopes` the last four bytes of each, `pool` all of the target, `fill_run` and `fill_zoned_run`
@@ -141,12 +139,12 @@ pub record DemandOne : Type 0 where
   pub row_refused : {s t : List ℕ} {x y n : ℕ} {row row' : List ℤ} → FillRun s x y row n row' t → ¬ (n ≡ 0) → row' ≡ row
   pub zoned_row_size : {s b t b' : List ℕ} {x y n : ℕ} {row row' : List ℤ} → FillZonedRun s b x y row n row' t b' → length row' ≡ length row
   pub zoned_row_refused : {s b t b' : List ℕ} {x y n : ℕ} {row row' : List ℤ} → FillZonedRun s b x y row n row' t b' → ¬ (n ≡ 0) → row' ≡ row
-  pub zoned_into_level : {s b t b' : List ℕ} {x y : ℕ} {held held' : ℤ} (c : ZonedLevelInto s b x y held 0 held' t b') → c.zoned ≡ zoned.Level held'
+  pub zoned_into_level : {s b t b' : List ℕ} {x y : ℕ} {held held' : ℤ} (c : ZonedLevelInto s b x y held 0 held' t b') → c.zoned ≡ Ok held'
   pub zoned_into_refused : {s b t b' : List ℕ} {x y n : ℕ} {held held' : ℤ} → ZonedLevelInto s b x y held n held' t b' → ¬ (n ≡ 0) → held' ≡ held
-  pub buffer_size : {s t : List ℕ} {x y : ℕ} {buffer buffer' : List ℤ} {r : Listed} → ListBends s x y buffer r buffer' t → length buffer' ≡ length buffer
-  pub buffer_behind : {s t : List ℕ} {x y : ℕ} {buffer buffer' : List ℤ} {r : Listed} → ListBends s x y buffer r buffer' t → (k : ℕ) →
+  pub buffer_size : {s t : List ℕ} {x y : ℕ} {buffer buffer' : List ℤ} {r : Result ℕ Refusal} → ListBends s x y buffer r buffer' t → length buffer' ≡ length buffer
+  pub buffer_behind : {s t : List ℕ} {x y : ℕ} {buffer buffer' : List ℤ} {r : Result ℕ Refusal} → ListBends s x y buffer r buffer' t → (k : ℕ) →
       3 * (tally r).pieces ≤ k → (z : ℤ) → get_or buffer' k z ≡ get_or buffer k z
-  pub buffer_refused : {s t : List ℕ} {x y : ℕ} {buffer buffer' : List ℤ} {r : Listed} → ListBends s x y buffer r buffer' t → ¬ ((tally r).number ≡ 0) →
+  pub buffer_refused : {s t : List ℕ} {x y : ℕ} {buffer buffer' : List ℤ} {r : Result ℕ Refusal} → ListBends s x y buffer r buffer' t → ¬ ((tally r).number ≡ 0) →
       buffer' ≡ buffer
   pub into_buffer : {s t : List ℕ} {x y count n count' : ℕ} {buffer buffer' : List ℤ} (c : BendsInto s x y buffer count n buffer' count' t) →
       ListBends s x y buffer c.listed buffer' t
@@ -171,13 +169,13 @@ pub record DemandOne : Type 0 where
       Gives of_reading (record { sheet = s; x = x; y = y; kind = kind }) (outcome r).number
   pub array_reading : {s t : List ℕ} {x y kind n : ℕ} {array array' : List ℕ} → ReadInto s x y kind array n array' t →
       Gives of_reading (record { sheet = s; x = x; y = y; kind = kind }) n
-  pub bends : {s t : List ℕ} {x y : ℕ} {buffer buffer' : List ℤ} {r : Listed} → ListBends s x y buffer r buffer' t →
+  pub bends : {s t : List ℕ} {x y : ℕ} {buffer buffer' : List ℤ} {r : Result ℕ Refusal} → ListBends s x y buffer r buffer' t →
       Gives of_bends (record { sheet = s; x = x; y = y; places = length buffer }) (tally r).number
   pub bends_into : {s t : List ℕ} {x y count n count' : ℕ} {buffer buffer' : List ℤ} → BendsInto s x y buffer count n buffer' count' t →
       Gives of_bends (record { sheet = s; x = x; y = y; places = length buffer }) n
   pub run : {s t : List ℕ} {x y n : ℕ} {row row' : List ℤ} → FillRun s x y row n row' t →
       Gives of_run (record { sheet = s; x = x; y = y; count = length row }) n
-  pub zoned_level : {s b t b' : List ℕ} {x y : ℕ} {r : Zoned} → ZonedLevel s b x y r t b' →
+  pub zoned_level : {s b t b' : List ℕ} {x y : ℕ} {r : Result ℤ Refusal} → ZonedLevel s b x y r t b' →
       Gives of_zoned_level (record { sheet = s; zones = b; x = x; y = y }) (zoned_outcome r).number
   pub zoned_into : {s b t b' : List ℕ} {x y n : ℕ} {held held' : ℤ} → ZonedLevelInto s b x y held n held' t b' →
       Gives of_zoned_level (record { sheet = s; zones = b; x = x; y = y }) n
@@ -186,10 +184,10 @@ pub record DemandOne : Type 0 where
   -- a reading that is refused is `Refused` with its number: it has no values
   pub refused_reading : {s t : List ℕ} {x y kind n : ℕ} {r : Answer} → Read s x y kind r t → (outcome r).number ≡ n → ¬ (n ≡ 0) → r ≡ answer.Refused n
   pub no_values : {s t : List ℕ} {x y kind : ℕ} {r : Answer} → Read s x y kind r t → ¬ ((outcome r).number ≡ 0) → (outcome r).values ≡ []
-  -- and `bends` and `zoned_level`, refused, are `Refused` with their numbers
-  pub refused_bends : {s t : List ℕ} {x y n : ℕ} {buffer buffer' : List ℤ} {r : Listed} → ListBends s x y buffer r buffer' t → (tally r).number ≡ n → ¬ (n ≡ 0) →
-      r ≡ listed.Refused n
-  pub refused_zoned : {s b t b' : List ℕ} {x y n : ℕ} {r : Zoned} → ZonedLevel s b x y r t b' → (zoned_outcome r).number ≡ n → ¬ (n ≡ 0) → r ≡ zoned.Refused n
+  -- and `bends` and `zoned_level`, refused, are an `Err` with their numbers
+  pub refused_bends : {s t : List ℕ} {x y n : ℕ} {buffer buffer' : List ℤ} {r : Result ℕ Refusal} → ListBends s x y buffer r buffer' t → (tally r).number ≡ n → ¬ (n ≡ 0) →
+      RefusedWith r n
+  pub refused_zoned : {s b t b' : List ℕ} {x y n : ℕ} {r : Result ℤ Refusal} → ZonedLevel s b x y r t b' → (zoned_outcome r).number ≡ n → ¬ (n ≡ 0) → RefusedWith r n
   -- a lookup that its companion says is refused hands back a part that holds nothing, at the sheet's start; else the node's six bytes, where they lie: in the
   -- sheet's block of memory, at the node's address there
   pub empty_part : {s r : Bor (List ℕ)} {t t' : List ℕ} {i j n : ℕ} → NodeCall s i j r t → NodeRefusal s.now i j n t' → ¬ (n ≡ 0) →

@@ -1,6 +1,6 @@
 -- 02's request #105, "How far one node reaches", sentence by sentence: of what readings give and runs leave on two sheets that differ in one height, and of
 -- what the worker of the program `reach` gives. Assumes nothing.
-use Rattle.std.specs.Prelude.{ℕ, ◌+◌, ◌*◌, ◌≤◌, ◌<◌, ◌≡◌, ◌↔◌, List, [], ◌∷◌, ◌++◌, false, ℤ, pos, nat_abs, ◌+ℤ◌, ◌-ℤ◌, ◌*ℤ◌, ◌≤ℤ◌, length, get_or, take}
+use Rattle.std.specs.Prelude.{ℕ, ◌+◌, ◌*◌, ◌≤◌, ◌<◌, ◌≡◌, ◌↔◌, List, [], ◌∷◌, ◌++◌, false, ℤ, pos, nat_abs, ◌+ℤ◌, ◌-ℤ◌, ◌*ℤ◌, ◌≤ℤ◌, length, get_or, take, Result, Ok}
 use Rattle.integers.specs.Within.{◌within◌}
 use Rattle.element_sibson.specs.Cubic.{◌≋◌}
 use Rattle.element_reach.specs.Follows.{Follows}
@@ -10,8 +10,9 @@ use Rattle.sheet_calls.specs.Refusals.{no_node, Accepted}
 use Rattle.sheet_calls.specs.WellFormed.{Inside}
 use Rattle.sheet_reach.specs.Reach.{TouchesNode, outermost, WithinLines, sheet_in, column_in, row_in, too_short, told}
 use Rattle.sheet_reach.specs.ReachLaws.{Attained}
-use Rattle.sheet_reach.specs.declared.Reach.{Reach}
-use Rattle.sheet_reach.specs.declared.Reach.TheVariants as reach
+use Rattle.sheet_reach.specs.declared.OuterLines.{OuterLines}
+use Rattle.sheet_calls.specs.declared.refusal.Refusal.{Refusal}
+use Rattle.sheet_calls.specs.Refused.{RefusedWith}
 use Rattle.surface_answers.specs.Answers.{outcome}
 use Rattle.surface_answers.specs.declared.Answer.{Answer}
 use Rattle.surface_of_sheet.specs.Place.{HasCell, Place}
@@ -82,8 +83,8 @@ pub record NodeReach : Type 0 where
   -- "A program reads […] a sheet, then a column byte and a row byte, and prints one line […]: the positions of the touched cells' left, top, right and bottom
   -- outermost lines." What its worker gives for a sheet with these bytes behind it, where the sheet is accepted and has the node; the text of the line,
   -- "decimal with one blank between", is that of `ReachLineLaws.lines` (program_reach_line)
-  pub answer : {s t : List ℕ} {i j : ℕ} {r : Reach} → Accepted s → i < columns s → j < rows s → ReachOf (s ++ i ∷ j ∷ []) r t →
-      let o = outermost s i j in r ≡ reach.Lines o.left o.top o.right o.bottom
+  pub answer : {s t : List ℕ} {i j : ℕ} {r : Result OuterLines Refusal} → Accepted s → i < columns s → j < rows s → ReachOf (s ++ i ∷ j ∷ []) r t →
+      let o = outermost s i j in r ≡ Ok (record { left = o.left; top = o.top; right = o.right; bottom = o.bottom })
   -- a cell of the sheet touches the node exactly when it lies between these lines, and each of them is a line of such a cell
   pub between : {s : List ℕ} {i j a b : ℕ} → Accepted s → i < columns s → j < rows s → HasCell s a b → TouchesNode a b i j ↔ WithinLines s i j a b
   pub attained : {s : List ℕ} {i j : ℕ} → Accepted s → i < columns s → j < rows s → Attained s i j
@@ -91,13 +92,13 @@ pub record NodeReach : Type 0 where
   pub last_two : (s : List ℕ) (i j : ℕ) → let input = s ++ i ∷ j ∷ [] in (sheet_in input ≡ s) × (column_in input ≡ i) × (row_in input ≡ j)
   pub together : (input : List ℕ) → 2 ≤ length input → sheet_in input ++ column_in input ∷ row_in input ∷ [] ≡ input
   pub one : (input : List ℕ) → (too_short input ≡ false) ↔ (2 ≤ length input)
-  pub refusals : {input t : List ℕ} {r : Reach} → ReachOf input r t → Gives of_reach input (told r).number
-  pub short : {input t : List ℕ} {r : Reach} → ReachOf input r t → length input < 2 → r ≡ reach.Refused 1
-  pub gives_ten : {input t : List ℕ} {r : Reach} → ReachOf input r t →
+  pub refusals : {input t : List ℕ} {r : Result OuterLines Refusal} → ReachOf input r t → Gives of_reach input (told r).number
+  pub short : {input t : List ℕ} {r : Result OuterLines Refusal} → ReachOf input r t → length input < 2 → RefusedWith r 1
+  pub gives_ten : {input t : List ℕ} {r : Result OuterLines Refusal} → ReachOf input r t →
       ((told r).number ≡ 10)
       ↔ ((2 ≤ length input) × Accepted (sheet_in input) × ¬ ((column_in input < columns (sheet_in input)) × (row_in input < rows (sheet_in input))))
-  -- refused, the answer is `Refused` with its number; the bytes that the worker is lent come back as they were
-  pub refused : {input t : List ℕ} {r : Reach} {n : ℕ} → ReachOf input r t → (told r).number ≡ n → ¬ (n ≡ 0) → r ≡ reach.Refused n
-  pub kept : {input t : List ℕ} {r : Reach} → ReachOf input r t → t ≡ input
+  -- refused, the answer is an `Err` with its number; the bytes that the worker is lent come back as they were
+  pub refused : {input t : List ℕ} {r : Result OuterLines Refusal} {n : ℕ} → ReachOf input r t → (told r).number ≡ n → ¬ (n ≡ 0) → RefusedWith r n
+  pub kept : {input t : List ℕ} {r : Result OuterLines Refusal} → ReachOf input r t → t ≡ input
   -- "at most 25,621 bytes": what stands behind them in a longer input changes no answer
-  pub cut : {input t u : List ℕ} {q r : Reach} → ReachOf input q t → ReachOf (take 25621 input) r u → r ≡ q
+  pub cut : {input t u : List ℕ} {q r : Result OuterLines Refusal} → ReachOf input q t → ReachOf (take 25621 input) r u → r ≡ q

@@ -1,14 +1,14 @@
 -- 02's request #106, "Zones on the screen", sentence by sentence, of whatever `zoned_level` and `fill_zoned_run` may give and leave, and the calls for C. In
 -- which order their refusals are looked at, and that sheet and zones come back as they were, demand 1 says. Assumes nothing.
-use Rattle.std.specs.Prelude.{ℕ, ◌+◌, ◌*◌, ◌≤◌, ◌<◌, ◌≡◌, ◌↔◌, ◌⊎◌, List, [], ◌∷◌, ℤ, pos, length, get_or}
+use Rattle.std.specs.Prelude.{ℕ, ◌+◌, ◌*◌, ◌≤◌, ◌<◌, ◌≡◌, ◌↔◌, ◌⊎◌, List, [], ◌∷◌, ℤ, pos, length, get_or, Result, Ok, Err}
 use Rattle.integers.specs.Within.{◌within◌}
 use Rattle.sheet_zones.specs.Zones.{zone_at, zones_of, holding, limited}
 use Rattle.sheet_zones.specs.ZoneLaws.{Holds, OfZones, EachValid, Between, ListLaws, LimitLaws}
 use Rattle.surface_answers.specs.Answers.{outcome}
 use Rattle.surface_answers.specs.declared.Answer.{Answer}
 use Rattle.surface_zones.specs.Zoned.{zoned_outcome}
-use Rattle.surface_zones.specs.declared.Zoned.{Zoned}
-use Rattle.surface_zones.specs.declared.Zoned.TheVariants.{Level, Refused}
+use Rattle.sheet_calls.specs.declared.refusal.Refusal.{Refusal}
+use Rattle.sheet_calls.specs.Refused as refused
 use Rattle.light_sheet_demands.specs.CallRecords.{Read, FillRun, ZonedLevel, FillZonedRun, ZonedLevelInto}
 use Rattle.light_sheet_demands.specs.Demands.{GivesLevel}
 
@@ -20,9 +20,9 @@ pub record HeldBy (b : List ℕ) (k x y : ℕ) : Type 0 where
   pub holds : Holds (zone_at b k) x y
 
 -- the answer is a level, in whole grains
-pub record IsLevel (r : Zoned) : Type 0 where
+pub record IsLevel (r : Result ℤ Refusal) : Type 0 where
   pub grains : ℤ
-  pub is : r ≡ Level grains
+  pub is : r ≡ Ok grains
 
 -- ---- a pixel
 
@@ -47,18 +47,18 @@ pub record ScreenZones : Type 0 where
   pub list : ListLaws
   -- what they do to a level, one after the other
   pub limits : LimitLaws
-  -- "One call gives the zoned level at a pixel, in whole grains and told apart from a refusal": 0 and a level, or, as demand 1 says, a number and `Refused`.
+  -- "One call gives the zoned level at a pixel, in whole grains and told apart from a refusal": 0 and a level, or, as demand 1 says, a number and an `Err`.
   -- Which number and levels each case of the answer has
-  pub answers : ((z : ℤ) → zoned_outcome (Level z) ≡ record { number = 0; levels = z ∷ [] })
-      × ((n : ℕ) → zoned_outcome (Refused n) ≡ record { number = n; levels = [] })
-  pub grains : {s b t b' : List ℕ} {x y : ℕ} {r : Zoned} → ZonedLevel s b x y r t b' → (zoned_outcome r).number ≡ 0 → IsLevel r
+  pub answers : ((z : ℤ) → zoned_outcome (Ok z) ≡ record { number = 0; levels = z ∷ [] })
+      × ((e : Refusal) → zoned_outcome (Err e) ≡ record { number = refused.number e; levels = [] })
+  pub grains : {s b t b' : List ℕ} {x y : ℕ} {r : Result ℤ Refusal} → ZonedLevel s b x y r t b' → (zoned_outcome r).number ≡ 0 → IsLevel r
   -- z is the level that `read` gives at the pixel
   pub pixel : {s b t u b' : List ℕ} {x y : ℕ} {a : Answer} {z v : ℤ} → Read s x y 0 a u → GivesLevel a z →
-      ZonedLevel s b x y (Level v) t b' → ZonedPixel b x y z v
+      ZonedLevel s b x y (Ok v) t b' → ZonedPixel b x y z v
   -- "runs come in a zoned form too", "a zoned run's numbers are zoned levels." What a zoned run leaves in slot k is what `zoned_level` gives at its pixel, and
   -- is made of what a plain run leaves there
-  pub run : {s b t u b' c : List ℕ} {x y k : ℕ} {row row' : List ℤ} {r : Zoned} → FillZonedRun s b x y row 0 row' t b' → k < length row →
-      ZonedLevel s b (x + k) y r u c → r ≡ Level (get_or row' k (pos 0))
+  pub run : {s b t u b' c : List ℕ} {x y k : ℕ} {row row' : List ℤ} {r : Result ℤ Refusal} → FillZonedRun s b x y row 0 row' t b' → k < length row →
+      ZonedLevel s b (x + k) y r u c → r ≡ Ok (get_or row' k (pos 0))
   pub slots : {s b t u b' : List ℕ} {x y k n : ℕ} {plain plain' row row' : List ℤ} → FillZonedRun s b x y row 0 row' t b' → k < length row →
       FillRun s x y plain n plain' u → length plain ≡ length row → ZonedPixel b (x + k) y (get_or plain' k (pos 0)) (get_or row' k (pos 0))
   -- an empty list leaves a plain run
@@ -66,11 +66,11 @@ pub record ScreenZones : Type 0 where
       (m ≡ n) × (row' ≡ row'')
   -- "Errors: 18 when the list's length is not a multiple of 12 or exceeds 192, after 7 (and 8); 19 when a zone has left above right, top above bottom, floor
   -- above ceiling, or a limit beyond ±4,095, after 18." A call is taken where the plain one is and the list is valid
-  pub eighteen : {s b t u b' : List ℕ} {x y : ℕ} {a : Answer} {r : Zoned} → Read s x y 0 a u → ZonedLevel s b x y r t b' →
+  pub eighteen : {s b t u b' : List ℕ} {x y : ℕ} {a : Answer} {r : Result ℤ Refusal} → Read s x y 0 a u → ZonedLevel s b x y r t b' →
       ((zoned_outcome r).number ≡ 18) ↔ (((outcome a).number ≡ 0) × ¬ OfZones b)
-  pub nineteen : {s b t u b' : List ℕ} {x y : ℕ} {a : Answer} {r : Zoned} → Read s x y 0 a u → ZonedLevel s b x y r t b' →
+  pub nineteen : {s b t u b' : List ℕ} {x y : ℕ} {a : Answer} {r : Result ℤ Refusal} → Read s x y 0 a u → ZonedLevel s b x y r t b' →
       ((zoned_outcome r).number ≡ 19) ↔ (((outcome a).number ≡ 0) × OfZones b × ¬ EachValid b)
-  pub taken : {s b t u b' : List ℕ} {x y : ℕ} {a : Answer} {r : Zoned} → Read s x y 0 a u → ZonedLevel s b x y r t b' →
+  pub taken : {s b t u b' : List ℕ} {x y : ℕ} {a : Answer} {r : Result ℤ Refusal} → Read s x y 0 a u → ZonedLevel s b x y r t b' →
       ((zoned_outcome r).number ≡ 0) ↔ (((outcome a).number ≡ 0) × OfZones b × EachValid b)
   pub eighteen_of_run : {s b t u b' : List ℕ} {x y m n : ℕ} {plain plain' row row' : List ℤ} → FillRun s x y plain n plain' u → length plain ≡ length row →
       FillZonedRun s b x y row m row' t b' → (m ≡ 18) ↔ ((n ≡ 0) × ¬ OfZones b)
@@ -79,6 +79,6 @@ pub record ScreenZones : Type 0 where
   pub taken_of_run : {s b t u b' : List ℕ} {x y m n : ℕ} {plain plain' row row' : List ℤ} → FillRun s x y plain n plain' u → length plain ≡ length row →
       FillZonedRun s b x y row m row' t b' → (m ≡ 0) ↔ ((n ≡ 0) × OfZones b × EachValid b)
   -- the call for C hands out the same level
-  pub for_c : {s b t b' : List ℕ} {x y : ℕ} {held held' : ℤ} → ZonedLevelInto s b x y held 0 held' t b' → ZonedLevel s b x y (Level held') t b'
+  pub for_c : {s b t b' : List ℕ} {x y : ℕ} {held held' : ℤ} → ZonedLevelInto s b x y held 0 held' t b' → ZonedLevel s b x y (Ok held') t b'
   -- "Plain levels, tilts and bends don't look at zones, and demands 2 and 3 speak of these": `read`, `bends` and `fill_run` are lent no list, and what demands 2
   -- and 3 say of them is as it was

@@ -3,7 +3,8 @@ ghost use Rattle.std.specs.Prelude.{◌≤◌, length};
 ghost use Rattle.sheet_calls.specs.WellFormed.{OnMesh};
 ghost use Rattle.light_sheet_demands.specs.CallRecords.{RunSteps, ReachOf};
 
-use sheet_reach::Reach;
+use sheet_calls::refusal::Refusal;
+use sheet_reach::OuterLines;
 
 pub fn run(sheet: &[u8], x: u32, y: u32, row: &mut [i32], budget: usize)
     requires { OnMesh sheet.now x y budget × (budget ≤ length row.old) }
@@ -12,7 +13,7 @@ pub fn run(sheet: &[u8], x: u32, y: u32, row: &mut [i32], budget: usize)
     surface_runs::run(sheet, x, y, row, budget)
 }
 
-pub fn reach(input: &[u8]) -> Reach
+pub fn reach(input: &[u8]) -> Result<OuterLines, Refusal>
     ensures { ReachOf input.now result input.exit.now }
 {
     sheet_reaching::reach(input)

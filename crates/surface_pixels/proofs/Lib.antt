@@ -1,3 +1,2 @@
-pub mod ByKind
 pub mod Cubics
 pub mod Refusal

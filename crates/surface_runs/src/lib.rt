@@ -4,18 +4,17 @@
 ghost use Rattle.std.specs.Prelude.{◌≡◌, suc, ◌+◌, ◌-◌, ◌≤◌, ◌<◌, length};
 ghost use Rattle.integers.specs.Stepwise.{steps};
 ghost use Rattle.sheet_layout.specs.Format.{columns, line_x};
-ghost use Rattle.sheet_calls.specs.Refusals.{Accepted};
 ghost use Rattle.sheet_calls.specs.WellFormed.{OnMesh};
 ghost use Rattle.surface_of_sheet.specs.Run.{after_steps};
 ghost use Rattle.surface_runs.specs.Strips.{strip_level, done_in, AtColumn};
 
 use element_cell::Pixel;
 use element_spans::fill_cell;
-use integers::least;
+use sheet_calls::accepted::Sheet;
+use sheet_layout::axis::Axis;
 use sheet_layout::header::columns;
-use sheet_layout::line_x;
 use surface_cells::corner_numbers;
-use surface_places::{find, read_place};
+use surface_places::spot::Spot;
 
 // The cells that a row of pixels lies in: their row, the pixels' offset from their top edge, their height.
 #[derive(Clone, Copy)]
@@ -31,11 +30,14 @@ pub fn run(sheet: &[u8], x: u32, y: u32, row: &mut [i32], budget: usize)
     requires { OnMesh sheet.now x y budget × (budget ≤ length row.old) }
     ensures { row.new ≡ after_steps sheet.now x y budget row.old }
 {
-    let place = read_place(sheet, find(sheet, x, y), x, y);
+    let sheet = Sheet { bytes: sheet };
+    let spot = Spot { sheet, x, y };
+    let place = spot.place();
+    let pixel = place.pixel;
     let strip = Strip {
         row: place.row,
-        offset: place.pixel.b,
-        height: place.pixel.height,
+        offset: pixel.b,
+        height: pixel.height,
     };
     let mut column = place.column;
     let mut done: usize = 0;
@@ -47,7 +49,7 @@ pub fn run(sheet: &[u8], x: u32, y: u32, row: &mut [i32], budget: usize)
 
 // Goes on with a run of `count` pixels, its budget, through one column of cells, and answers how many of them are done then.
 fn fill_column(
-    sheet: &[u8],
+    sheet: Sheet,
     strip: Strip,
     column: usize,
     x: usize,
@@ -55,19 +57,19 @@ fn fill_column(
     done: usize,
     count: usize,
 ) -> usize
-    requires { AtColumn sheet.now strip x count done column × (count ≤ length row.old) }
-    ensures answer { result ≡ done_in sheet.now x column count }
-    ensures row { row.new ≡ steps (λ k. strip_level sheet.now strip (x + k)) done (result - done) row.old }
+    requires { AtColumn sheet.bytes.now strip x count done column × (count ≤ length row.old) }
+    ensures answer { result ≡ done_in sheet.entry.bytes.now x column count }
+    ensures row { row.new ≡ steps (λ k. strip_level sheet.entry.bytes.now strip (x + k)) done (result - done) row.old }
 {
-    let left = line_x(sheet, column) as usize;
-    let right = line_x(sheet, column + 1) as usize;
+    let left = Axis::X.line(sheet.bytes, column) as usize;
+    let right = Axis::X.line(sheet.bytes, column + 1) as usize;
     let width = right - left;
     let end = done_in(sheet, column, right, x, count);
     let n = corner_numbers(sheet, column, strip.row, width, strip.height);
     let next = Pixel {
         a: x + done - left,
         b: strip.offset,
-        width: width,
+        width,
         height: strip.height,
     };
     fill_cell(row, done, end - done, n, next);
@@ -75,12 +77,12 @@ fn fill_column(
 }
 
 // How many of the run's pixels are done when those in this column, up to its right line, are.
-fn done_in(sheet: &[u8], column: usize, right: usize, x: usize, count: usize) -> usize
-    requires { Accepted sheet.now × (suc column < columns sheet.now) × (right ≡ line_x sheet.now (suc column)) × (x ≤ right) }
-    ensures { result ≡ done_in sheet.now x column count }
+fn done_in(sheet: Sheet, column: usize, right: usize, x: usize, count: usize) -> usize
+    requires { (suc column < columns sheet.bytes.now) × (right ≡ line_x sheet.bytes.now (suc column)) × (x ≤ right) }
+    ensures { result ≡ done_in sheet.entry.bytes.now x column count }
 {
-    if column + 2 == columns(sheet) {
+    if column + 2 == columns(sheet.bytes) {
         return count;
     }
-    least(count, right - x)
+    count.min(right - x)
 }

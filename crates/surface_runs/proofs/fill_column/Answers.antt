@@ -10,11 +10,11 @@ use lib.IntN.{ℤ}
 use Rattle.integers.specs.Stepwise.{steps, starting_at}
 use Rattle.integers.proofs.Stepwise.{steps_same, starting_at_lem}
 use Rattle.element_sibson.specs.Element.{corner_numbers}
-use Rattle.element_cell.specs.Cell.{cell}
+use Rattle.element_cell.specs.Cell.{cell, PixelInCell}
 use Rattle.element_cell.specs.Corners.{corners, arrays, largest, AllWithin}
 use Rattle.element_cell.specs.declared.Pixel.{Pixel}
 use Rattle.element_cell.proofs.Arrays.{held}
-use Rattle.sheet_layout.specs.Format.{line_x}
+use Rattle.sheet_layout.specs.Format.{columns, line_x}
 use Rattle.sheet_calls.proofs.WellFormed.{lines_there}
 use Rattle.surface_of_sheet.proofs.Cells.{sound, x_rising}
 use Rattle.element_spans.specs.Needs.{FitsCell}
@@ -52,48 +52,58 @@ module _ {s : List ℕ} {t : Strip} {x count done column left right : ℕ} (at :
 
 -- ---- the answers
 
-pub line_x-left-requires : goal.line_x-left-requires
-line_x-left-requires c = let h = (strip_cell c.requires.0).column in (lines_there _ c.requires.0.on.accepted, omega arith)
+pub line-left-requires : goal.line-left-requires
+line-left-requires c = let h = (strip_cell c.requires.0).column in (lines_there _ c.requires.0.on.accepted, omega arith)
 
 pub overflow_add-column : goal.overflow_add-column
 overflow_add-column c = let h = (strip_cell c.requires.0).column in let many = (sound _ c.requires.0.on.accepted).many_columns in search rules
 
-pub line_x-right-requires : goal.line_x-right-requires
-line_x-right-requires c = let h = (strip_cell c.requires.0).column in (lines_there _ c.requires.0.on.accepted, omega arith)
+pub line-right-requires : goal.line-right-requires
+line-right-requires c = let h = (strip_cell c.requires.0).column in (lines_there _ c.requires.0.on.accepted, omega arith)
 
 pub overflow_sub-width : goal.overflow_sub-width
 overflow_sub-width c =
     let rises = (x_rising _ c.requires.0.on.accepted).rises c.args.column (strip_cell c.requires.0).column in
-    omega (arith, right_is c.requires.0 c.line_x-left.ensures c.line_x-right.ensures, c.line_x-left.ensures, rises)
+    omega (arith, right_is c.requires.0 c.line-left.ensures.0 c.line-right.ensures.0, c.line-left.ensures.0, rises)
 
 pub done_in-end-requires : goal.done_in-end-requires
 done_in-end-requires c =
-    let right = right_is c.requires.0 c.line_x-left.ensures c.line_x-right.ensures in
-    (c.requires.0.on.accepted, (strip_cell c.requires.0).column, right, omega (arith, right, column_ends c.requires.0))
+    let right = right_is c.requires.0 c.line-left.ensures.0 c.line-right.ensures.0 in
+    ((strip_cell c.requires.0).column, right, omega (arith, right, column_ends c.requires.0))
 
 pub corner_numbers-n-requires : goal.corner_numbers-n-requires
 corner_numbers-n-requires c =
     let inside = (pixels_fit c.requires.0).inside in
-    (c.requires.0.on.accepted, strip_cell c.requires.0, rw (width_is c.requires.0 c.line_x-left.ensures c.line_x-right.ensures) inside.width, inside.height)
+    (strip_cell c.requires.0, rw (width_is c.requires.0 c.line-left.ensures.0 c.line-right.ensures.0) inside.width, inside.height)
 
 pub overflow_sub-next : goal.overflow_sub-next
-overflow_sub-next c = rw c.line_x-left.ensures (column_starts c.requires.0)
+overflow_sub-next c = rw c.line-left.ensures.0 (column_starts c.requires.0)
 
 pub overflow_sub-end : goal.overflow_sub-end
 overflow_sub-end c = rw c.done_in-end.ensures (le_of_lt (ends c.requires.0).further)
 
+pub overflow_add-next : goal.overflow_add-next
+overflow_add-next c =
+    let a = c.requires.0.on.accepted in let few = (sound _ a).few_columns in
+    let last = (x_rising _ a).near (columns c.args.sheet.bytes.now - 1) (omega (arith, few)) in
+    let to = c.requires.0.on.to in let more = c.requires.0.more in search rules
+
+pub invariant_of-next : goal.invariant_of-next
+invariant_of-next c =
+    subst⁻¹ PixelInCell (pixel_is c.requires.0 c.line-left.ensures.0 c.line-right.ensures.0) (pixels_fit c.requires.0).inside
+
 pub fill_cell-requires : goal.fill_cell-requires
 fill_cell-requires c =
-    let a = c.args in let e = c.done_in-end.ensures in let first = c.line_x-left.ensures in let second = c.line_x-right.ensures in (
+    let a = c.args in let e = c.done_in-end.ensures in let first = c.line-left.ensures.0 in let second = c.line-right.ensures.0 in (
       subst⁻¹ (AllWithin largest) (held _ (corner c.requires.0 first second c.corner_numbers-n.ensures)) (column_within c.requires.0),
-      rw e (subst⁻¹ (λ p. FitsCell p (done_in a.sheet.now a.x a.column a.count - a.done)) (pixel_is c.requires.0 first second) (pixels_fit c.requires.0)),
+      rw e (subst⁻¹ (λ p. FitsCell p (done_in a.sheet.bytes.now a.x a.column a.count - a.done)) (pixel_is c.requires.0 first second) (pixels_fit c.requires.0)),
       omega (arith, e, (ends c.requires.0).further, (ends c.requires.0).most, c.requires.1),
     )
 
 -- what is stored
 pub returns-clause-row : goal.returns-clause-row
 returns-clause-row c =
-    let a = c.args in let first = c.line_x-left.ensures in let second = c.line_x-right.ensures in
+    let a = c.args in let first = c.line-left.ensures.0 in let second = c.line-right.ensures.0 in
     c.fill_cell.ensures
     ∙ (λ j. steps (starting_at a.done (λ k. cell_level (corners c.corner_numbers-n.result) (to_right (pixel_is c.requires.0 first second j) k))) a.done (c.done_in-end.result - a.done) a.row.now)
     ∙ steps_same _ _ _ _ _ (λ k l. starting_at_lem a.done _ k ∙ column_levels c.requires.0 (corner c.requires.0 first second c.corner_numbers-n.ensures) k (omega (arith, l, c.done_in-end.ensures)))
