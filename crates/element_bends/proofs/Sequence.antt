@@ -1,14 +1,7 @@
 -- The pieces in the order in which their bends are stored. Assumes nothing.
-use Rattle.element_sibson.specs.Piece.{Piece, top, right, bottom, left}
+use Rattle.std.specs.Prelude.{List, [], ◌∷◌}
+use Rattle.element_cell.specs.declared.Piece.{Piece}
+use Rattle.element_cell.specs.declared.Piece.TheVariants.{Top, Right, Bottom, Left}
 
-abbrev pub first : Piece
-first = top
-
-abbrev pub second : Piece
-second = right
-
-abbrev pub third : Piece
-third = bottom
-
-abbrev pub fourth : Piece
-fourth = left
+abbrev pub sequence : List Piece
+sequence = Top ∷ Right ∷ Bottom ∷ Left ∷ []

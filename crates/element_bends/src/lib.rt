@@ -3,7 +3,6 @@
 
 ghost use Rattle.std.specs.Prelude.{◌≡◌, ◌+◌, ◌≤◌, length};
 ghost use Rattle.std.proofs.lemmas.List.Edits.{sets};
-ghost use Rattle.element_cell.specs.Cell.{PixelInCell};
 ghost use Rattle.element_cell.specs.Corners.{corners, largest, AllWithin};
 ghost use Rattle.element_cell.specs.Pieces.{piece_of};
 ghost use Rattle.element_bends.specs.PieceBends.{piece_bends, cell_bends};
@@ -12,19 +11,20 @@ use element_cell::{Piece, Pixel};
 
 // Stores them from index `at` on, piece by piece, and answers the index behind the last.
 pub fn cell_bends(n: [[i64; 3]; 4], p: Pixel, list: &mut [i64], at: usize) -> usize
-    requires { AllWithin largest (corners n) × PixelInCell p × (at + length (cell_bends (corners n) p) ≤ length list.old) }
+    requires { AllWithin largest (corners n) × (at + length (cell_bends (corners n) p) ≤ length list.old) }
     ensures answer { result ≡ at + length (cell_bends (corners n) p) }
     ensures list { list.new ≡ sets list.old at (cell_bends (corners n) p) }
 {
-    let second = piece_bends(n, p, Piece::Top, list, at);
-    let third = piece_bends(n, p, Piece::Right, list, second);
-    let fourth = piece_bends(n, p, Piece::Bottom, list, third);
-    piece_bends(n, p, Piece::Left, list, fourth)
+    let mut end = at;
+    for piece in [Piece::Top, Piece::Right, Piece::Bottom, Piece::Left] {
+        end = piece_bends(n, p, piece, list, end);
+    }
+    end
 }
 
 // The same of one piece.
 fn piece_bends(n: [[i64; 3]; 4], p: Pixel, piece: Piece, list: &mut [i64], at: usize) -> usize
-    requires { AllWithin largest (corners n) × PixelInCell p × (at + length (piece_bends (corners n) p (piece_of piece)) ≤ length list.old) }
+    requires { AllWithin largest (corners n) × (at + length (piece_bends (corners n) p (piece_of piece)) ≤ length list.old) }
     ensures answer { result ≡ at + length (piece_bends (corners n) p (piece_of piece)) }
     ensures list { list.new ≡ sets list.old at (piece_bends (corners n) p (piece_of piece)) }
 {
