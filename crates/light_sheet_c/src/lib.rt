@@ -41,10 +41,10 @@ pub fn lvs_node_offset(sheet: &[u8], column: u32, row: u32) -> usize
     ensures answer { result ≡ (looked_up sheet.now column row).start }
     ensures kept { sheet.exit.now ≡ sheet.now }
 {
-    if light_sheet::node_refusal(sheet, column, row).is_err() {
-        return 0;
+    match light_sheet::node_refusal(sheet, column, row) {
+        Ok(()) => sheet_layout::node_offset(sheet, column as usize, row as usize),
+        Err(_) => 0,
     }
-    sheet_layout::node_offset(sheet, column as usize, row as usize)
 }
 
 // Sets the node at a column and row to a height, in steps, and two slopes, in grains per pixel, and answers 0; or, refused (1 to 6, 10, 11), answers the

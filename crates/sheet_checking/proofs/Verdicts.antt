@@ -42,6 +42,3 @@ module _ (s : List ℕ) where
 
         pub passes : wrong_nodes s ≡ false → 0 ≡ sheet_refusal s
         passes e = rw (sheet_is s, h.0, h.1, h.2, size, lines, e) refl
-
-  pub some_lines : other_counts s ≡ false → (0 < columns s) × (0 < rows s)
-  some_lines e = let h = (condition_laws.three s).0 e in (omega (arith, h.0), omega (arith, h.2))

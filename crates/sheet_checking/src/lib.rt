@@ -2,18 +2,27 @@
 #![tactic(auto)]
 
 ghost use Rattle.std.specs.Prelude.{◌≡◌, IfOk, false, ◌+◌, ◌*◌, ◌≤◌, ◌<◌, length};
-ghost use Rattle.sheet_layout.specs.Format.{header_size, columns, rows, line_from, stated_size};
+ghost use Rattle.sheet_layout.specs.Axis.{lines_of, line_of};
+ghost use Rattle.sheet_layout.specs.Format.{header_size, nodes_offset, stated_size};
 ghost use Rattle.sheet_layout.specs.Some.{some};
 ghost use Rattle.sheet_calls.specs.Refusals.{other_mark, other_version, other_counts, other_length, wrong_step, wrong_line, wrong_lines, wrong_nodes, sheet_refusal, check_refusal};
 ghost use Rattle.sheet_calls.specs.Refused.{refusal_number};
 
 use sheet_calls::accepted::Sheet;
 use sheet_calls::refusal::Refusal;
+use sheet_layout::axis::Axis;
+use sheet_layout::gathering::some;
 use sheet_layout::header::{
     HEADER_SIZE, columns, count_in, marked, reserved, rows, supported, version,
 };
 use sheet_layout::ranges::some_node_out;
-use sheet_layout::{X_LINES_OFFSET, line_from, stated_size, y_lines_offset};
+use sheet_layout::stated_size;
+
+// No line lies further away.
+const FURTHEST: u32 = 4096;
+
+// No two neighbouring lines lie further apart.
+const WIDEST: u32 = 64;
 
 // Ok where the sheet is accepted, else the first condition that holds.
 pub fn sheet_refusal(sheet: &[u8]) -> Result<(), Refusal>
@@ -64,6 +73,7 @@ fn body_refusal(sheet: &[u8]) -> Result<(), Refusal>
     Ok(())
 }
 
+#[tactic(auto, unfolding(sheet_calls::specs::Refusals::other_mark))]
 fn other_mark(sheet: &[u8]) -> bool
     ensures { result ≡ other_mark sheet.now }
 {
@@ -73,6 +83,7 @@ fn other_mark(sheet: &[u8]) -> bool
     !marked(sheet)
 }
 
+#[tactic(auto, unfolding(sheet_calls::specs::Refusals::other_version))]
 fn other_version(sheet: &[u8]) -> bool
     requires { header_size ≤ length sheet.now }
     ensures { result ≡ other_version sheet.now }
@@ -80,6 +91,7 @@ fn other_version(sheet: &[u8]) -> bool
     !supported(version(sheet))
 }
 
+#[tactic(auto, unfolding(sheet_calls::specs::Refusals::other_counts))]
 fn other_counts(sheet: &[u8]) -> bool
     requires { header_size ≤ length sheet.now }
     ensures { result ≡ other_counts sheet.now }
@@ -87,6 +99,7 @@ fn other_counts(sheet: &[u8]) -> bool
     !count_in(columns(sheet)) | !count_in(rows(sheet)) | (reserved(sheet) != 0)
 }
 
+#[tactic(auto, unfolding(sheet_calls::specs::Refusals::other_length))]
 fn other_length(sheet: &[u8]) -> bool
     requires { header_size ≤ length sheet.now }
     ensures { result ≡ other_length sheet.now }
@@ -94,36 +107,44 @@ fn other_length(sheet: &[u8]) -> bool
     sheet.len() != stated_size(sheet)
 }
 
+#[tactic(auto, unfolding(sheet_calls::specs::Refusals::wrong_lines))]
 fn wrong_lines(sheet: &[u8]) -> bool
-    requires { (0 < columns sheet.now) × (0 < rows sheet.now) × (length sheet.now ≡ stated_size sheet.now) }
+    requires { length sheet.now ≡ stated_size sheet.now }
     ensures { result ≡ wrong_lines sheet.now }
 {
-    let across = wrong_axis(sheet, X_LINES_OFFSET, columns(sheet));
-    let down = wrong_axis(sheet, y_lines_offset(sheet), rows(sheet));
-    across | down
+    wrong_axis(sheet, Axis::X) | wrong_axis(sheet, Axis::Y)
 }
 
-// Whether one of an axis's lines, from index `start` on, is wrong. No early exit: the compiler may look at several lines at once.
-fn wrong_axis(sheet: &[u8], start: usize, lines: usize) -> bool
-    requires { (0 < lines) × (start + 2 * lines ≤ length sheet.now) }
-    ensures { result ≡ some (wrong_line (line_from sheet.now start)) lines }
+// Whether one of an axis's lines is wrong.
+fn wrong_axis(sheet: &[u8], axis: Axis) -> bool
+    requires { nodes_offset sheet.now ≤ length sheet.now }
+    ensures { result ≡ some (wrong_line (line_of axis sheet.now)) (lines_of axis sheet.now) }
 {
-    let mut wrong = 4096 < line_from(sheet, start, 0);
-    let mut k = 1;
-    while k < lines {
-        wrong = wrong | wrong_step(line_from(sheet, start, k - 1), line_from(sheet, start, k));
-        k += 1;
-    }
-    wrong
+    some(axis.lines(sheet), |k| wrong_line(sheet, axis, k))
 }
 
+#[tactic(auto, unfolding(sheet_calls::specs::Refusals::wrong_line))]
+fn wrong_line(sheet: &[u8], axis: Axis, k: usize) -> bool
+    requires { (nodes_offset sheet.now ≤ length sheet.now) × (k < lines_of axis sheet.now) }
+    ensures { result ≡ wrong_line (line_of axis sheet.now) k }
+{
+    let position = axis.line(sheet, k);
+    if k == 0 {
+        FURTHEST < position
+    } else {
+        wrong_step(axis.line(sheet, k - 1), position)
+    }
+}
+
+#[tactic(auto, unfolding(sheet_calls::specs::Refusals::wrong_step))]
 fn wrong_step(before: u32, position: u32) -> bool
     requires { before < 65536 }
     ensures { result ≡ wrong_step before position }
 {
-    (4096 < position) | (position <= before) | (before + 64 < position)
+    (FURTHEST < position) | (position <= before) | (before + WIDEST < position)
 }
 
+#[tactic(auto, unfolding(sheet_calls::specs::Refusals::wrong_nodes))]
 fn wrong_nodes(sheet: &[u8]) -> bool
     requires { length sheet.now ≡ stated_size sheet.now }
     ensures { result ≡ wrong_nodes sheet.now }

@@ -12,7 +12,7 @@ pub fn marked(sheet: &[u8]) -> bool
     requires { header_size ≤ length sheet.now }
     ensures { result ≡ marked sheet.now }
 {
-    (sheet[0] == 0x4c) & (sheet[1] == 0x56) & (sheet[2] == 0x53)
+    sheet.starts_with(b"LVS")
 }
 
 pub fn version(sheet: &[u8]) -> u32
@@ -29,7 +29,7 @@ pub fn supported(version: u32) -> bool
     version == 1
 }
 
-// How many vertical lines there are, and how many horizontal ones.
+// How many vertical lines there are, and how many horizontal ones. Each is one byte: a common function would be no shorter.
 pub fn columns(sheet: &[u8]) -> usize
     requires { header_size ≤ length sheet.now }
     ensures { (result ≡ columns sheet.now) × (result < 256) }
@@ -48,7 +48,7 @@ pub fn rows(sheet: &[u8]) -> usize
 pub fn count_in(n: usize) -> bool
     ensures { result ≡ count_in n }
 {
-    (2 <= n) & (n <= 65)
+    (2..=65).contains(&n)
 }
 
 // Byte 7, which has to be 0.

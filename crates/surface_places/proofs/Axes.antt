@@ -1,5 +1,5 @@
 -- The two axes of a sheet; those of an accepted one. Assumes nothing.
-use Prim.Native.Nat.{ℕ, ◌-◌, ◌≤◌}
+use Prim.Native.Nat.{ℕ, ◌+◌, ◌*◌, ◌-◌, ◌≤◌}
 use mathlib.Core.Path.{◌≡◌, refl, sym}
 use mathlib.Core.Bool.{◌||◌, or_assoc}
 use mathlib.Core.List.{List}
@@ -7,7 +7,7 @@ use native.Mathlib.Omega.{arith}
 use lib.Dec.{ltb}
 use lib.ListN.{length}
 use Rattle.sheet_layout.specs.Format.{columns, rows, line_from, x_lines_offset, y_lines_offset, nodes_offset, line_x, line_y}
-use Rattle.sheet_layout.specs.Axis.{lines_of, line_of}
+use Rattle.sheet_layout.specs.Axis.{start_of, lines_of, line_of}
 use Rattle.sheet_layout.specs.declared.axis.Axis as layout
 use Rattle.sheet_calls.specs.Refusals.{outside, Accepted}
 use Rattle.sheet_calls.specs.WellFormed.{Inside, Rising}
@@ -62,11 +62,16 @@ lines_read m = omega (arith, m.down.there)
 -- what they are along either axis
 pub record Along (a : layout.Axis) (s : List ℕ) : Type 0 where
   pub few : 2 ≤ lines_of a s
+  pub there : start_of a s + 2 * lines_of a s ≤ length s
   pub rising : Rising (line_of a s) (lines_of a s)
 
 pub along : {s : List ℕ} → Mesh s → (a : layout.Axis) → Along a s
-along m layout.TheVariants.X = record { few = m.across.few; rising = m.across.rising }
-along m layout.TheVariants.Y = record { few = m.down.few; rising = m.down.rising }
+along m layout.TheVariants.X = record { few = m.across.few; there = m.across.there; rising = m.across.rising }
+along m layout.TheVariants.Y = record { few = m.down.few; there = m.down.there; rising = m.down.rising }
+
+pub line_is_from : (a : layout.Axis) (s : List ℕ) (k : ℕ) → line_of a s k ≡ line_from s (start_of a s) k
+line_is_from layout.TheVariants.X s k = refl
+line_is_from layout.TheVariants.Y s k = refl
 
 module _ (s : List ℕ) (x y : ℕ) (inside : Inside s x y) where
   pub x_between : Between (line_from s x_lines_offset) (columns s) x

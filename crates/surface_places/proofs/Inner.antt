@@ -13,12 +13,11 @@ use Rattle.sheet_words.specs.Word.{byte_at, word_at}
 use Rattle.sheet_layout.specs.Format.{line_from}
 use Rattle.sheet_layout.specs.Axis.{start_of, lines_of, line_of}
 use Rattle.sheet_layout.specs.declared.axis.Axis.{Axis}
-use Rattle.sheet_layout.proofs.AxisLines.{line_is_from, lines_end}
 use Rattle.sheet_calls.proofs.Rising.{rise}
 use Rattle.surface_of_sheet.specs.Place.{highest_along}
 use Rattle.surface_of_sheet.proofs.Along.{along_least, along_starts, along_last}
 use Rattle.surface_places.specs.Found.{Mesh}
-use Rattle.surface_places.proofs.Axes.{lines_read, along}
+use Rattle.surface_places.proofs.Axes.{along, line_is_from}
 
 -- the words of bytes, taken by twos
 pair_word : (n k : ℕ) (b : List ℕ) → k < n → word_at (get_or (first_chunks 2 n b) k []) 0 ≡ word_at b (2 * k)
@@ -50,7 +49,7 @@ module _ {s : List ℕ} (m : Mesh s) (a : Axis) {start lines : ℕ} (at : start 
   inner = take (lines - 1 - 1) (drop 1 words)
 
   there : start + 2 * lines ≤ length s
-  there = omega (arith, at, many, lines_end a s, lines_read m)
+  there = omega (arith, at, many, (along m a).there)
 
   enough : lines ≤ length (bytes_from s start) / 2
   enough = simp (length-take, length-drop) (omega (arith, there))

@@ -6,15 +6,18 @@ use mathlib.Core.List.{List, ◌∷◌, map, map-id}
 use native.Mathlib.Nat.{add-zero, suc-add, add-suc, le_of_lt}
 use native.Mathlib.Omega.{arith}
 use lib.IntN.{ℤ}
+use lib.ListN.{length}
 use Rattle.integers.specs.Within.{◌within◌}
 use Rattle.integers.proofs.Bounds.{is_within}
 use Rattle.sheet_calls.specs.Refusals.{Accepted}
 use Rattle.sheet_calls.specs.WellFormed.{Inside, OnMesh}
 use Rattle.sheet_zones.specs.Zones.{limited}
 use Rattle.sheet_zoning.specs.Clamps.{level_bound, clamp_at, clamped, leaves_all, Stretch}
+use Rattle.sheet_zoning.specs.declared.Clamp.{Clamp}
 use Rattle.sheet_zoning.proofs.Clamped.{as_clamp, left_alone}
 use Rattle.surface_of_sheet.specs.Surface.{level}
-use Rattle.surface_of_sheet.specs.Run.{levels_along}
+use Rattle.surface_of_sheet.specs.Run.{levels_along, after_steps}
+use Rattle.surface_of_sheet.proofs.Runs.{run_laws}
 use Rattle.surface_of_sheet.proofs.Sizes.{level_below}
 use Rattle.surface_zones.specs.Zoned.{zoned_level, zoned_along}
 
@@ -39,8 +42,20 @@ module _ (s b : List ℕ) (x y n : ℕ) (mesh : OnMesh s x y n) (stretch : Stret
   unfolding zoned_level
   by_clamp k h = ap (λ zs. limited zs (level s (x + k) y)) (stretch.same k h) ∙ as_clamp b x y (near k h)
 
-  pub clamped_along : zoned_along s b x y n ≡ map (clamped (clamp_at b x y)) (levels_along s x y n)
+  clamped_along : zoned_along s b x y n ≡ map (clamped (clamp_at b x y)) (levels_along s x y n)
   clamped_along = under_map (clamped (clamp_at b x y)) s b x y n by_clamp
 
-  pub plain_along : leaves_all (clamp_at b x y) ≡ true → zoned_along s b x y n ≡ levels_along s x y n
+  plain_along : leaves_all (clamp_at b x y) ≡ true → zoned_along s b x y n ≡ levels_along s x y n
   plain_along e = under_map (λ z. z) s b x y n (λ k h. by_clamp k h ∙ left_alone (clamp_at b x y) e (near k h)) ∙ map-id (levels_along s x y n)
+
+  -- a row of the levels, and the clamp that the stretch's zones make
+  module _ {row : List ℤ} (filled : row ≡ levels_along s x y n) {l : Clamp} (is : l ≡ clamp_at b x y) where
+    pub clamped_row : map (clamped l) row ≡ zoned_along s b x y n
+    clamped_row = (λ t. map (clamped (is t)) (filled t)) ∙ sym clamped_along
+
+    pub left_row : leaves_all l ≡ true → row ≡ zoned_along s b x y n
+    left_row e = filled ∙ sym (plain_along (ap leaves_all (sym is) ∙ e))
+
+-- a run through a whole row
+pub run_filled : (s : List ℕ) (x y : ℕ) (row : List ℤ) {new : List ℤ} → new ≡ after_steps s x y (length row) row → new ≡ levels_along s x y (length row)
+run_filled s x y row e = e ∙ run_laws.is_begun _ _ _ _ row (omega arith) ∙ run_laws.all _ _ _ row

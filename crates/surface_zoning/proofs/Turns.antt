@@ -8,11 +8,12 @@ use lib.IntN.{ℤ}
 use lib.ListN.{length, take, drop, length-append, length-drop, drop_of_length-le}
 use lib.Seq.{length-take-le, take_at, drop_at, drop-drop}
 use Rattle.sheet_calls.specs.WellFormed.{Inside, OnMesh}
+use Rattle.sheet_zoning.specs.Clamps.{Stretch}
 use Rattle.surface_zones.specs.Zoned.{zoned_along}
 use Rattle.surface_zones.proofs.Along.{along_length, along_append}
 
 -- from a pixel of a run on, as far as it goes
-pub further_on : (s : List ℕ) (x y count k n : ℕ) → OnMesh s x y count → k < count → k + n ≤ count → OnMesh s (x + k) y n
+further_on : (s : List ℕ) (x y count k n : ℕ) → OnMesh s x y count → k < count → k + n ≤ count → OnMesh s (x + k) y n
 further_on s x y count k n mesh h l = record {
   accepted = mesh.accepted;
   first = mesh.each k h;
@@ -33,28 +34,29 @@ module _ (s b : List ℕ) (x y : ℕ) (row₀ : List ℤ) where
     behind : drop done row ≡ drop done row₀
     behind = ap (drop done) u.grown ∙ drop_at (zoned_along s b x y done) (drop done row₀) done (along_length s b x y done)
 
-    pub same_length : length row ≡ length row₀
-    same_length = ap length u.grown ∙ length-append (zoned_along s b x y done) (drop done row₀)
-        ∙ (λ t. along_length s b x y done t + length-drop done row₀ t) ∙ omega (arith, u.most)
-
-    pub all_done : length row₀ ≤ done → row ≡ zoned_along s b x y (length row₀)
-    all_done h = u.grown ∙ (λ t. zoned_along s b x y done ++ drop_of_length-le row₀ h t) ∙ append-nil (zoned_along s b x y done) ∙ ap (zoned_along s b x y) (le_antisymm u.most h)
-
-    module _ (n : ℕ) (fits : done + n ≤ length row₀) where
+    -- a stretch of n pixels further
+    module _ (n : ℕ) (more : done < length row₀) (fits : n ≤ length row₀ - done) where
       size : done + n - done ≡ n
       size = omega arith
 
-      -- the slots of the stretch
-      pub part_length : length (take (done + n - done) (drop done row)) ≡ n
-      part_length = rw (size, behind) (length-take-le n (drop done row₀) (rw (length-drop done row₀) (omega (arith, fits))))
+      ends : done + n ≤ length row₀
+      ends = omega (arith, more, fits)
 
-      rows : {part : List ℤ} → part ≡ zoned_along s b (x + done) y n →
-          take done row ++ (part ++ drop (done + n - done) (drop done row)) ≡ zoned_along s b x y (done + n) ++ drop (done + n) row₀
-      rows e =
+      -- its slots
+      part_length : length (take (done + n - done) (drop done row)) ≡ n
+      part_length = rw (size, behind) (length-take-le n (drop done row₀) (rw (length-drop done row₀) fits))
+
+      pub lent : OnMesh s x y (length row₀) → Stretch b (x + done) y n →
+          let m = length (take (done + n - done) (drop done row)) in OnMesh s (x + done) y m × Stretch b (x + done) y m
+      lent mesh stretch = rw part_length (further_on s x y (length row₀) done n mesh more ends, stretch)
+
+      pub next_turn : {part : List ℤ} → part ≡ zoned_along s b (x + done) y (length (take (done + n - done) (drop done row)))
+          → Turn (take done row ++ (part ++ drop (done + n - done) (drop done row))) (done + n)
+      next_turn e =
+          let filled = e ∙ ap (zoned_along s b (x + done) y) part_length in
           let front = ap (take done) u.grown ∙ take_at (zoned_along s b x y done) (drop done row₀) done (along_length s b x y done) in
-          let rest = (λ t. drop (size t) (behind t)) ∙ drop-drop n done row₀ in
-          (λ t. front t ++ (e t ++ rest t)) ∙ sym (append_assoc (zoned_along s b x y done) (zoned_along s b (x + done) y n) (drop (done + n) row₀))
-          ∙ ap (λ l. l ++ drop (done + n) row₀) (sym (along_append s b x y done n))
-
-      pub next_turn : {part : List ℤ} → part ≡ zoned_along s b (x + done) y n → Turn (take done row ++ (part ++ drop (done + n - done) (drop done row))) (done + n)
-      next_turn e = record { most = fits; grown = rows e }
+          let rest = (λ t. drop (size t) (behind t)) ∙ drop-drop n done row₀ in record {
+        most = ends;
+        grown = (λ t. front t ++ (filled t ++ rest t)) ∙ sym (append_assoc (zoned_along s b x y done) (zoned_along s b (x + done) y n) (drop (done + n) row₀))
+            ∙ ap (λ l. l ++ drop (done + n) row₀) (sym (along_append s b x y done n));
+      }

@@ -49,6 +49,7 @@ fn fill_stretches(sheet: &[u8], zones: &[u8], x: u32, y: u32, row: &mut [i32])
 {
     let count = row.len();
     let mut done: usize = 0;
+    // Not a `for`: where the next stretch begins is known only from the zones at this one.
     while done < count {
         let next = x + done as u32;
         let end = done + stretch(zones, next, y, count - done);

@@ -1,34 +1,24 @@
 -- `light_sheet_c::lvs_bends` meets its contract. Assumes nothing.
-use Rattle.std.proofs.Common.{ℕ, ◌≡◌, ◌∙◌, List, refl, sym, ap, arith}
-use native.Mathlib.Decide.{ℕ_discrete}
+use Rattle.std.proofs.Common.{◌∙◌, refl, ap}
 use borrow.Author.Tests.{ne_eqb}
-use Rattle.surface_bends.specs.Bends.{bends_refusal, Tally, tally, counted}
-use Rattle.surface_bends.specs.declared.Listed.{Listed}
-use Rattle.surface_bends.specs.declared.Listed.TheVariants.{Refused}
-use Rattle.surface_bends.proofs.Laws.{bend_laws}
-use Rattle.surface_bends.proofs.Call.{refused_is}
+use Rattle.surface_bends.specs.Bends.{Tally, tally}
+use Rattle.sheet_calls.proofs.Refused.{number-not_zero}
 use Rattle.light_sheet_c.specs.Values.{count_over}
 use Rattle.light_sheet_c.proofs.lvs_bends.Goals as goal
 
--- a refusal hands out no count
-none_counted : (s : List ℕ) (x y places : ℕ) (r : Result ℕ Refusal) (n held : ℕ) → r ≡ Refused n → tally r ≡ counted s x y places → held ≡ count_over (counted s x y places) held
-unfolding count_over
-none_counted s x y places r n held e t = elim (ℕ_discrete (bends_refusal s x y places) 0) [
-  | yes z ↦ let same = sym (bend_laws.pieces s x y places z r t) ∙ e in absurd (let no : ◌≡◌ {A = ℕ} 0 1 = cc in omega arith)
-  | no h ↦ rw (refused_is s x y places h, ne_eqb _ 0 h) refl
-]
-
-pub returns-in-Pieces-clause-answer : goal.returns-in-Pieces-clause-answer
+pub returns-in-Ok-clause-answer : goal.returns-in-Ok-clause-answer
 unfolding tally
-returns-in-Pieces-clause-answer c = ap (λ (t : Tally). t.number) (ap tally (sym c.in-Pieces.is) ∙ c.bends-listed.ensures.answer)
+returns-in-Ok-clause-answer c = ap (λ (t : Tally). t.number) c.in-Ok.ensures.answer
 
-pub returns-in-Pieces-clause-pieces : goal.returns-in-Pieces-clause-pieces
+pub returns-in-Ok-clause-pieces : goal.returns-in-Ok-clause-pieces
 unfolding tally count_over
-returns-in-Pieces-clause-pieces c = ap (λ (t : Tally). count_over t c.args.pieces.now) (ap tally (sym c.in-Pieces.is) ∙ c.bends-listed.ensures.answer)
+returns-in-Ok-clause-pieces c = ap (λ (t : Tally). count_over t c.args.pieces.now) c.in-Ok.ensures.answer
 
-pub returns-in-Refused-clause-answer : goal.returns-in-Refused-clause-answer
+pub returns-in-Err-clause-answer : goal.returns-in-Err-clause-answer
 unfolding tally
-returns-in-Refused-clause-answer c = ap (λ (t : Tally). t.number) (ap tally (sym c.in-Refused.is) ∙ c.bends-listed.ensures.answer)
+returns-in-Err-clause-answer c = c.number.ensures ∙ ap (λ (t : Tally). t.number) c.in-Err.ensures.answer
 
-pub returns-in-Refused-clause-pieces : goal.returns-in-Refused-clause-pieces
-returns-in-Refused-clause-pieces c = none_counted _ _ _ _ _ _ _ c.in-Refused.is c.bends-listed.ensures.answer
+-- a refusal hands out no count
+pub returns-in-Err-clause-pieces : goal.returns-in-Err-clause-pieces
+unfolding tally count_over
+returns-in-Err-clause-pieces c = rw (← c.in-Err.ensures.answer, ne_eqb _ 0 (number-not_zero c.in-Err.refusal)) refl

@@ -1,7 +1,7 @@
 -- `sheet_checking::body_refusal` meets its contract. Assumes nothing.
 use Rattle.std.proofs.Common.{sym, ◌∙◌}
 use Rattle.sheet_calls.proofs.Conditions.{condition_laws}
-use Rattle.sheet_checking.proofs.Verdicts.{header, by_length, by_lines, by_nodes, passes, some_lines}
+use Rattle.sheet_checking.proofs.Verdicts.{header, by_length, by_lines, by_nodes, passes}
 use Rattle.sheet_checking.proofs.body_refusal.Goals as goal
 
 pub other_length-requires : goal.other_length-requires
@@ -11,9 +11,7 @@ pub returns-then-other_length : goal.returns-then-other_length
 returns-then-other_length c = by_length _ c.requires (sym c.other_length.ensures ∙ c.if-other_length.true)
 
 pub wrong_lines-requires : goal.wrong_lines-requires
-wrong_lines-requires c =
-    let n = some_lines _ c.requires.2 in
-    (n.0, n.1, (condition_laws.four _).0 (sym c.other_length.ensures ∙ c.if-other_length.false))
+wrong_lines-requires c = (condition_laws.four _).0 (sym c.other_length.ensures ∙ c.if-other_length.false)
 
 pub returns-then-wrong_lines : goal.returns-then-wrong_lines
 returns-then-wrong_lines c =

@@ -1,7 +1,0 @@
--- `light_sheet_c::lvs_fill_slopes` meets its contract. Assumes nothing.
-use borrow.Author.Rules.{rules}
-use Rattle.light_sheet_c.proofs.lvs_fill_slopes.Statement.{statement}
-use Rattle.light_sheet_c.proofs.lvs_fill_slopes.Tie as tie
-
-pub lvs_fill_slopes_spec : {M : Type 1} → statement M
-lvs_fill_slopes_spec = tie.close (tie.spec (λ c κs. search rules) (λ c. search rules) (λ c. c.before.before.fill_slopes.ensures))
