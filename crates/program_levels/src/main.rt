@@ -3,24 +3,18 @@
 #![tactic(auto)]
 
 use bounded_input::read_full;
-use program_listing::{INPUT_ROOM, ROW_ROOM, next_text};
+use program_listing::{INPUT_ROOM, Listing, ROW_ROOM};
 
-// Reads, then writes each text in turn, until one is empty or a write fails.
+// Reads, then writes each text in turn, until a write fails.
 fn main(rt: HostRuntime) {
     let mut bytes = [0u8; INPUT_ROOM];
     let n = read_full(&mut rt.stdin(), &mut bytes);
-    let sheet = &bytes[..n];
-    let refusal = sheet_checking::sheet_refusal(sheet);
+    let listing = Listing::of(&bytes[..n]);
     let mut out = [0u8; ROW_ROOM];
-    let mut k: u32 = 0;
-    loop {
-        let end = next_text(sheet, refusal, k, &mut out);
-        if end == 0 {
-            return;
-        }
+    for k in 0..listing.count() {
+        let end = listing.write(k, &mut out);
         if rt.write_all(&out[..end]).is_err() {
             return;
         }
-        k += 1;
     }
 }

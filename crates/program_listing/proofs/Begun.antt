@@ -30,7 +30,7 @@ pub record Begun (s : List ℕ) (y : ℕ) (buffer : List ℕ) (x : ℕ) (out : L
   pub written : Written buffer 0 (until s y x) out end
 
 module _ (s : List ℕ) (y : ℕ) (row : OnRow s y) where
-  pub on_row : (x : ℕ) → first_x s ≤ x → x ≤ last_x s → Inside s x y
+  on_row : (x : ℕ) → first_x s ≤ x → x ≤ last_x s → Inside s x y
   on_row x h l = record { left = h; right = l; top = row.top; bottom = row.bottom }
 
   x_in_order : first_x s ≤ last_x s
@@ -40,10 +40,6 @@ module _ (s : List ℕ) (y : ℕ) (row : OnRow s y) where
   until_fits x h =
       sequence_length (λ k. pixel_line s (first_x s + k) y) line_room (x - first_x s)
       (λ k l. line_fits s (first_x s + k) y row.accepted (on_row (first_x s + k) (omega arith) (omega arith)))
-
-  pub row_fits : length (row_text s y) ≤ row_room
-  unfolding row_text
-  row_fits = omega (arith, until_fits (last_x s + 1) (omega arith), last_x_near s row.accepted)
 
   pub row_some : 0 < length (row_text s y)
   unfolding row_text
@@ -56,7 +52,7 @@ module _ (s : List ℕ) (y : ℕ) (row : OnRow s y) where
       record { from = omega arith; to = omega (arith, x_in_order); written = rw none (refl, refl) }
 
   module _ (buffer : List ℕ) (room : row_room ≤ length buffer) {x : ℕ} {out : List ℕ} {end : ℕ} (begun : Begun s y buffer x out end) where
-    pub length_kept : length out ≡ length buffer
+    length_kept : length out ≡ length buffer
     length_kept = ap length begun.written.1 ∙ replaced_length buffer 0 (until s y x) (omega (arith, until_fits x begun.to, last_x_near s row.accepted))
 
     -- there is room for the line of pixel x

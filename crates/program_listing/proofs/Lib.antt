@@ -1,4 +1,5 @@
 pub mod Begun
+pub mod Checked
 pub mod Input
 pub mod Lengths
 pub mod Sequence

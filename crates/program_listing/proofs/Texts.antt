@@ -1,6 +1,6 @@
 -- The texts that are printed one after the other: which they are, and what is proved of them. Assumes nothing.
 use Prim.Native.Nat.{ℕ, ◌+◌, ◌≤◌, ◌<◌}
-use mathlib.Core.Path.{◌≡◌, refl, ◌∙◌, ap}
+use mathlib.Core.Path.{◌≡◌, refl, ◌∙◌}
 use mathlib.Core.List.{List, []}
 use native.Mathlib.Decide.{dec_lt, ℕ_discrete}
 use native.Mathlib.Omega.{arith}
@@ -68,10 +68,7 @@ some s k l =
       | no h ↦ rw (line_next s h k l) (refused_some (sheet_refusal s))
     ]
 
--- bytes say that the end is not reached, no bytes that it is
-pub not_ended : (s : List ℕ) (k : ℕ) → (length (next_text s k) ≡ 0 → ⊥) → k < text_count s
-not_ended s k h = elim (dec_lt k (text_count s)) [ yes l ↦ l | no l ↦ absurd (h (ap length (next_none s k (omega arith)))) ]
-
+-- no bytes say that the end is reached
 ended : (s : List ℕ) (k : ℕ) → length (next_text s k) ≡ 0 → text_count s ≤ k
 ended s k e = elim (dec_lt k (text_count s)) [ yes l ↦ absurd (omega (arith, some s k l)) | no l ↦ omega arith ]
 

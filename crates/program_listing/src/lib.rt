@@ -3,14 +3,20 @@
 
 pub mod theorems;
 
-ghost use Rattle.std.specs.Prelude.{◌≡◌, ◌+◌, ◌≤◌, length};
+ghost use Rattle.std.specs.Prelude.{◌≡◌, ◌-◌, ◌+◌, ◌≤◌, ◌<◌, length};
+ghost use Rattle.std.specs.Result.{ForOk};
 ghost use Rattle.sheet_words.specs.Word.{replaced};
-ghost use Rattle.sheet_calls.specs.Refusals.{Accepted, sheet_refusal};
-ghost use Rattle.sheet_calls.specs.WellFormed.{Inside};
-ghost use Rattle.program_listing.specs.Listing.{last_x, last_y, OnRow, pixel_line, row_text, text_count, next_text, line_room, row_room};
+ghost use Rattle.sheet_layout.specs.Axis.{line_of, lines_of};
+ghost use Rattle.sheet_calls.specs.Refusals.{sheet_refusal};
+ghost use Rattle.sheet_calls.specs.Refused.{refusal_number};
+ghost use Rattle.program_listing.specs.Listing.{OnRow, pixel_line, row_text, text_count, next_text, line_room, row_room};
 
-use sheet_layout::header::{columns, rows};
-use sheet_layout::{line_x, line_y};
+use sheet_calls::accepted::Sheet;
+use sheet_calls::refusal::Refusal;
+use sheet_checking::accepted;
+use sheet_layout::axis::Axis;
+use surface_pixels::level_and_tilt;
+use surface_places::spot::Spot;
 
 // How many bytes of the input are read at most: the longest sheet has 25,618, and one more tells a longer input.
 pub const INPUT_ROOM: usize = 25619;
@@ -18,70 +24,83 @@ pub const INPUT_ROOM: usize = 25619;
 // How many bytes a text takes at most: 64 for each of a row's 4,097 pixels.
 pub const ROW_ROOM: usize = 262208;
 
-// Writes the text that comes after k of them to the start of `out`, and answers how many bytes it has: 0 at the end. `refusal` is what the check has given.
-pub fn next_text(sheet: &[u8], refusal: u32, k: u32, out: &mut [u8]) -> usize
-    requires { (refusal ≡ sheet_refusal sheet.now) × (row_room ≤ length out.old) }
-    ensures count { result ≡ length (next_text sheet.now k) }
-    ensures text { out.new ≡ replaced out.old 0 (next_text sheet.now k) }
-{
-    if text_count(sheet, refusal) <= k {
-        return 0;
-    }
-    if refusal != 0 {
-        return program_text::refused(out, refusal);
-    }
-    row_text(sheet, line_y(sheet, 0) + k, out)
+// The texts of a sheet: its bytes, and what the check has given.
+#[derive(Clone, Copy)]
+pub struct Listing<'a> {
+    bytes: &'a [u8],
+    checked: Result<Sheet<'a>, Refusal>,
+    ghost refusal: { refusal_number checked ≡ sheet_refusal bytes.now },
+    ghost sheet: { ForOk checked (λ s. s.bytes.now ≡ bytes.now) },
 }
 
-// How many texts there are.
-fn text_count(sheet: &[u8], refusal: u32) -> u32
-    requires { refusal ≡ sheet_refusal sheet.now }
-    ensures { result ≡ text_count sheet.now }
-{
-    if refusal != 0 {
-        return 1;
+impl<'a> Listing<'a> {
+    // Those of the bytes, checked once.
+    pub fn of(bytes: &'a [u8]) -> Listing<'a>
+        ensures { result.bytes ≡ bytes.entry }
+    {
+        Listing {
+            bytes,
+            checked: accepted(bytes),
+        }
     }
-    last_row(sheet) + 1 - line_y(sheet, 0)
+
+    // How many there are.
+    pub fn count(self) -> u32
+        ensures { result ≡ text_count self.entry.bytes.now }
+    {
+        match self.checked {
+            Ok(sheet) => last_line(sheet, Axis::Y) + 1 - first_line(sheet, Axis::Y),
+            Err(_) => 1,
+        }
+    }
+
+    // Writes the text that comes after k of them to the start of `out`, and answers how many bytes it has.
+    pub fn write(self, k: u32, out: &mut [u8]) -> usize
+        requires { (k < text_count self.bytes.now) × (row_room ≤ length out.old) }
+        ensures count { result ≡ length (next_text self.entry.bytes.now k) }
+        ensures text { out.new ≡ replaced out.old 0 (next_text self.entry.bytes.now k) }
+    {
+        match self.checked {
+            Ok(sheet) => row_text(sheet, first_line(sheet, Axis::Y) + k, out),
+            Err(refusal) => program_text::refused(out, refusal.number()),
+        }
+    }
 }
 
 // Writes the text of row y to the start of `out`, and answers how many bytes it has.
-fn row_text(sheet: &[u8], y: u32, out: &mut [u8]) -> usize
-    requires { OnRow sheet.now y × (row_room ≤ length out.old) }
-    ensures count { result ≡ length (row_text sheet.now y) }
-    ensures text { out.new ≡ replaced out.old 0 (row_text sheet.now y) }
+fn row_text(sheet: Sheet, y: u32, out: &mut [u8]) -> usize
+    requires { OnRow sheet.bytes.now y × (row_room ≤ length out.old) }
+    ensures count { result ≡ length (row_text sheet.entry.bytes.now y) }
+    ensures text { out.new ≡ replaced out.old 0 (row_text sheet.entry.bytes.now y) }
 {
-    let last = last_column(sheet);
-    let mut x = line_x(sheet, 0);
-    let mut end: usize = 0;
-    while x <= last {
-        end = pixel_line(sheet, x, y, out, end);
-        x += 1;
+    let mut end = 0;
+    for x in first_line(sheet, Axis::X)..last_line(sheet, Axis::X) + 1 {
+        let spot = Spot { sheet, x, y };
+        end = pixel_line(spot, out, end);
     }
     end
 }
 
-// Writes the line of a pixel of the mesh from index `at` on, and answers the index behind it.
-fn pixel_line(sheet: &[u8], x: u32, y: u32, out: &mut [u8], at: usize) -> usize
-    requires { Accepted sheet.now × Inside sheet.now x y × (at + line_room ≤ length out.old) }
-    ensures end { result ≡ at + length (pixel_line sheet.now x y) }
-    ensures text { out.new ≡ replaced out.old at (pixel_line sheet.now x y) }
+// Writes a pixel's line from index `at` on, and answers the index behind it.
+fn pixel_line(spot: Spot, out: &mut [u8], at: usize) -> usize
+    requires { at + line_room ≤ length out.old }
+    ensures end { result ≡ at + length (pixel_line spot.entry.sheet.bytes.now spot.entry.x spot.entry.y) }
+    ensures text { out.new ≡ replaced out.old at (pixel_line spot.entry.sheet.bytes.now spot.entry.x spot.entry.y) }
 {
-    let reading = surface_pixels::level_and_tilt(sheet, x, y);
-    let numbers = [x as i64, y as i64, reading[0], reading[1], reading[2]];
+    let [level, tilt_x, tilt_y] = level_and_tilt(spot);
+    let numbers = [i64::from(spot.x), i64::from(spot.y), level, tilt_x, tilt_y];
     program_text::line(out, at, &numbers)
 }
 
-// The last lines of the mesh: the last pixel of a row, the last row.
-fn last_column(sheet: &[u8]) -> u32
-    requires { Accepted sheet.now }
-    ensures { result ≡ last_x sheet.now }
+// The first line and the last along an axis.
+fn first_line(sheet: Sheet, axis: Axis) -> u32
+    ensures { result ≡ line_of axis sheet.entry.bytes.now 0 }
 {
-    line_x(sheet, columns(sheet) - 1)
+    axis.line(sheet.bytes, 0)
 }
 
-fn last_row(sheet: &[u8]) -> u32
-    requires { Accepted sheet.now }
-    ensures { result ≡ last_y sheet.now }
+fn last_line(sheet: Sheet, axis: Axis) -> u32
+    ensures { result ≡ line_of axis sheet.entry.bytes.now (lines_of axis sheet.entry.bytes.now - 1) }
 {
-    line_y(sheet, rows(sheet) - 1)
+    axis.line(sheet.bytes, axis.lines(sheet.bytes) - 1)
 }

@@ -1,19 +1,16 @@
 -- `surface_bend_list::bends` meets its contract. Assumes nothing.
-use Rattle.std.proofs.Common.{Result, Ok, Err, ℕ, ◌+◌, ◌/◌, ◌≡◌, ◌≤◌, ◌<◌, ◌∙◌, ◌++◌, List, ℤ, length, drop, cond, refl, sym, ap, arith, rules}
+use Rattle.std.proofs.Common.{Err, ℕ, ◌/◌, ◌≡◌, ◌≤◌, ◌<◌, ◌∙◌, ◌++◌, List, ℤ, length, drop, cond, refl, sym, ap, arith, rules}
 use Rattle.std.proofs.lemmas.List.Edits.{sets}
 use native.Mathlib.Nat.{zero-add, le_trans}
 use borrow.Author.Tests.{lt-ltb, le-ltb}
 use lib.Seq.{sets-eq}
-use Rattle.sheet_calls.specs.Refusals.{Accepted}
 use Rattle.sheet_calls.specs.Refused.{number}
-use Rattle.sheet_calls.specs.WellFormed.{Inside}
 use Rattle.sheet_calls.specs.declared.refusal.Refusal.{Refusal}
 use Rattle.sheet_calls.proofs.Rules.{or_else, passed_by}
 use Rattle.sheet_calls.proofs.Refused.{number-not_zero, refused_first}
 use Rattle.surface_places.specs.Spots.{spot_refusal}
-use Rattle.surface_places.specs.declared.spot.Spot.{Spot}
 use Rattle.surface_places.proofs.Spots.{behind_spot}
-use Rattle.surface_bends.specs.Bends.{touching_places, bends, too_few, bends_refusal, tally, counted, with_bends}
+use Rattle.surface_bends.specs.Bends.{touching_places, bends, too_few, bends_refusal, tally, counted}
 use Rattle.surface_bends.proofs.Chain.{bends_is, taken}
 use Rattle.surface_bends.proofs.Numbers.{size, few}
 use Rattle.surface_bends.proofs.Call.{counted_is, refused_is, written_is, untouched}

@@ -32,8 +32,7 @@ pixel_of x y i j e l = e ∙ ap (λ (k : Bor (List ℕ)). pixel_in k.now i j x y
 
 pub cell_bends-requires : goal.cell_bends-requires
 cell_bends-requires c =
-    let t = c.requires.touches in let is = pixel_of _ _ _ _ c.pixel_in-p.ensures c.of.ensures in let made = c.corner_numbers-n.ensures in
-    (
+    let t = c.requires.touches in let is = pixel_of _ _ _ _ c.pixel_in-p.ensures c.of.ensures in let made = c.corner_numbers-n.ensures in (
       rw (numbers _ t.0 t.1 c.p.view_is is made) (numbers_within _ c.args.spot.sheet.accepted _ _ (record { column = t.0.has; row = t.1.has })),
       rw (listed _ t.0 t.1 c.p.view_is is made) c.requires.column_in_bounds,
     )

@@ -32,7 +32,8 @@ module _ (s : List ℕ) (x y j : ℕ) (accepted : Accepted s) (inside : Inside s
     begun : Stored b at (in_turn cells.lowest (bends_in s x y j)) b at
     begun = begins _ _ (λ i h. before_column s x y accepted inside j i (rw are at h))
 
-    whole : {n : ℕ} {l : List ℤ} {end : ℕ} → Stored b at (in_turn n (bends_in s x y j)) l end → cells.highest < n → (cells.lowest ≤ cells.highest + 1 → n ≤ cells.highest + 1) → Stored b at (bends_in_row s x y j) l end
+    whole : {n : ℕ} {l : List ℤ} {end : ℕ} → Stored b at (in_turn n (bends_in s x y j)) l end →
+        cells.highest < n → (cells.lowest ≤ cells.highest + 1 → n ≤ cells.highest + 1) → Stored b at (bends_in_row s x y j) l end
     unfolding bends_in_row
     whole v past to = ends _ _ v (columns s - 1) (omega (arith, to ordered, there))
         (λ i h m. behind_column s x y accepted inside j i (rw are at (let far : cells.highest < i = omega arith in far)))

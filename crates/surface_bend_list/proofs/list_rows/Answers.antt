@@ -45,7 +45,8 @@ module _ (s : List ℕ) (x y : ℕ) (accepted : Accepted s) (inside : Inside s x
     begun : Stored b 0 (in_turn cells.rows.lowest (bends_in_row s x y)) b 0
     begun = begins _ _ (λ j h. before_row s x y accepted inside j (rw rows_found at h))
 
-    whole : {n : ℕ} {l : List ℤ} {end : ℕ} → Stored b 0 (in_turn n (bends_in_row s x y)) l end → cells.rows.highest < n → (cells.rows.lowest ≤ cells.rows.highest + 1 → n ≤ cells.rows.highest + 1) → Stored b 0 (bends s x y) l end
+    whole : {n : ℕ} {l : List ℤ} {end : ℕ} → Stored b 0 (in_turn n (bends_in_row s x y)) l end →
+        cells.rows.highest < n → (cells.rows.lowest ≤ cells.rows.highest + 1 → n ≤ cells.rows.highest + 1) → Stored b 0 (bends s x y) l end
     whole v past to = rw (rows_are s x y) at (ends _ _ v (rows s - 1) (omega (arith, to ordered, there))
         (λ j h m. behind_row s x y accepted inside j (rw rows_found at (let far : cells.rows.highest < j = omega arith in far))))
 
