@@ -1,9 +1,9 @@
-// Division that rounds down, and the rounding rule, on 64-bit integers: numerators within 2⁶², denominators from 1 to 2³⁷; and the smaller of two numbers.
+// Division that rounds down, and the rounding rule, on 64-bit integers: numerators within 2⁶², denominators from 1 to 2³⁷.
 #![tactic(auto)]
 
 pub mod theorems;
 
-ghost use Rattle.std.specs.Prelude.{◌≡◌, ◌^◌, min, pos, nat_abs, ◌+ℤ◌, ◌*ℤ◌, ◌≤ℤ◌, ◌<ℤ◌};
+ghost use Rattle.std.specs.Prelude.{◌≡◌, ◌^◌, pos, nat_abs, ◌+ℤ◌, ◌*ℤ◌, ◌≤ℤ◌, ◌<ℤ◌};
 ghost use Rattle.integers.specs.Within.{◌within◌};
 ghost use Rattle.integers.specs.Floor.{floor_div};
 ghost use Rattle.integers.specs.Round.{round};
@@ -87,11 +87,4 @@ fn nearest(q: i64, rest: i64, d: i64) -> i64
     } else {
         q + 1
     }
-}
-
-// The smaller of two numbers.
-pub fn least(a: usize, b: usize) -> usize
-    ensures { result ≡ min a b }
-{
-    if a < b { a } else { b }
 }
