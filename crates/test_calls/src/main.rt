@@ -13,6 +13,7 @@ mod runs;
 
 use bounded_input::read_full;
 use lines::{Case, answer};
+use sheet_calls::refusal::refusal_number;
 use std::io::Read;
 use std::{array, io};
 
@@ -76,13 +77,14 @@ fn make_call(
 
 fn check(rt: &impl Print, case: Case<'_>) -> io::Result<()> {
     case.call(rt, "check")?;
-    answer(rt, light_sheet::check(case.sheet))?;
+    answer(rt, refusal_number(light_sheet::check(case.sheet)))?;
     println!(rt; "")
 }
 
 fn node(rt: &impl Print, case: Case<'_>, column: u32, row: u32) -> io::Result<()> {
     case.call_at(rt, "node", column, row)?;
-    answer(rt, light_sheet::node_refusal(case.sheet, column, row))?;
+    let refusal = light_sheet::node_refusal(case.sheet, column, row);
+    answer(rt, refusal_number(refusal))?;
     handed_back(rt, light_sheet::node(case.sheet, column, row))?;
     println!(rt; "")
 }
@@ -94,8 +96,8 @@ fn set_node(rt: &impl Print, case: Case<'_>, copy: &mut [u8], numbers: [u32; 5])
     case.call_at(rt, "set_node", column, row)?;
     print!(rt; "{height} {x_slope} {y_slope} ")?;
     let set = input::copy(case.sheet, copy);
-    let number = light_sheet::set_node(set, column, row, height, x_slope, y_slope);
-    answer(rt, number)?;
+    let outcome = light_sheet::set_node(set, column, row, height, x_slope, y_slope);
+    answer(rt, refusal_number(outcome))?;
     changes(rt, case.sheet, set)?;
     println!(rt; "")
 }

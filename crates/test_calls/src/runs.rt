@@ -3,6 +3,7 @@
 ghost use Rattle.std.specs.Prelude.{◌≤◌, length};
 
 use super::lines::{Case, answer};
+use sheet_calls::refusal::refusal_number;
 use std::io;
 use surface_answers::{Answer, LevelReading};
 
@@ -34,9 +35,9 @@ fn fill_lent(
     requires { (64 ≤ end) × (end ≤ length buffer.old) }
 {
     mark(buffer);
-    let number = light_sheet::fill_run(sheet, x, y, &mut buffer[MARGIN..end]);
-    answer(rt, number)?;
-    if number == 0 {
+    let outcome = light_sheet::fill_run(sheet, x, y, &mut buffer[MARGIN..end]);
+    answer(rt, refusal_number(outcome))?;
+    if outcome.is_ok() {
         levels(rt, &buffer[MARGIN..end])?;
         if !as_read(sheet, x, y, &buffer[MARGIN..end]) {
             print!(rt; " unlike_read")?;
