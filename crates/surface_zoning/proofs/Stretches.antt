@@ -1,12 +1,7 @@
 -- A stretch of pixels that the same zones hold: its zoned levels are the levels under one clamp. Assumes nothing.
-use Prim.Native.Nat.{ℕ, zero, suc, ◌+◌, ◌<◌}
-use mathlib.Core.Path.{◌≡◌, refl, sym, ◌∙◌, ap, subst}
-use mathlib.Core.Bool.{true}
-use mathlib.Core.List.{List, ◌∷◌, map, map-id}
-use native.Mathlib.Nat.{add-zero, suc-add, add-suc, le_of_lt}
-use native.Mathlib.Omega.{arith}
-use lib.IntN.{ℤ}
-use lib.ListN.{length}
+use Rattle.std.proofs.Common.{ℕ, zero, suc, ◌+◌, ◌<◌, ◌≡◌, refl, sym, ◌∙◌, ap, subst, true, List, ◌∷◌, map, length, ℤ, arith}
+use Rattle.std.proofs.Math.Nat.{add-zero, suc-add, add-suc, le_of_lt}
+use Rattle.std.proofs.lemmas.List.{map-id}
 use Rattle.integers.specs.Within.{◌within◌}
 use Rattle.integers.proofs.Bounds.{is_within}
 use Rattle.sheet_calls.specs.Refusals.{Accepted}

@@ -1,12 +1,7 @@
 -- The turns of a zoned run: the slots that are done hold their zoned levels, the others what they held; a stretch further they do too. Assumes nothing.
-use Prim.Native.Nat.{ℕ, ◌+◌, ◌-◌, ◌≤◌, ◌<◌}
-use mathlib.Core.Path.{◌≡◌, refl, sym, ◌∙◌, ap, subst}
-use mathlib.Core.List.{List, ◌++◌, append-nil, append_assoc}
-use native.Mathlib.Nat.{add_assoc, le_antisymm}
-use native.Mathlib.Omega.{arith}
-use lib.IntN.{ℤ}
-use lib.ListN.{length, take, drop, length-append, length-drop, drop_of_length-le}
-use lib.Seq.{length-take-le, take_at, drop_at, drop-drop}
+use Rattle.std.proofs.Common.{ℕ, ◌+◌, ◌-◌, ◌≤◌, ◌<◌, ◌≡◌, refl, sym, ◌∙◌, ap, subst, List, ◌++◌, append_assoc, ℤ, length, take, drop, length-drop, arith}
+use Rattle.std.proofs.Math.Nat.{add_assoc}
+use Rattle.std.proofs.lemmas.List.{length-take-le, take_at, drop_at, drop-drop}
 use Rattle.sheet_calls.specs.WellFormed.{Inside, OnMesh}
 use Rattle.sheet_zoning.specs.Clamps.{Stretch}
 use Rattle.surface_zones.specs.Zoned.{zoned_along}
@@ -56,7 +51,7 @@ module _ (s b : List ℕ) (x y : ℕ) (row₀ : List ℤ) where
           let filled = e ∙ ap (zoned_along s b (x + done) y) part_length in
           let front = ap (take done) u.grown ∙ take_at (zoned_along s b x y done) (drop done row₀) done (along_length s b x y done) in
           let rest = (λ t. drop (size t) (behind t)) ∙ drop-drop n done row₀ in record {
-        most = ends;
-        grown = (λ t. front t ++ (filled t ++ rest t)) ∙ sym (append_assoc (zoned_along s b x y done) (zoned_along s b (x + done) y n) (drop (done + n) row₀))
-            ∙ ap (λ l. l ++ drop (done + n) row₀) (sym (along_append s b x y done n));
-      }
+            most = ends;
+            grown = (λ t. front t ++ (filled t ++ rest t)) ∙ sym (append_assoc (zoned_along s b x y done) (zoned_along s b (x + done) y n) (drop (done + n) row₀))
+                ∙ ap (λ l. l ++ drop (done + n) row₀) (sym (along_append s b x y done n));
+          }

@@ -32,4 +32,4 @@ returns c =
     let spot = c.in_ok-spot.ensures.spot in
     taken _ _ _ _ c.in_ok-spot.ensures.refusal c.in_ok-zones_refusal.ensures
     (unchanged w32 c.clamp_level.type_inv ∙ c.clamp_level.ensures ∙ (λ t. clamped (c.clamp_at-clamp.ensures t) (number t)) ∙ sym (as_clamp _ _ _ near)
-      ∙ (λ t. limited (zones_at c.args.zones.now c.args.x c.args.y) (level (spot.0 t).now (spot.1 t) (spot.2 t))))
+    ∙ (λ t. limited (zones_at c.args.zones.now c.args.x c.args.y) (level (spot.0 t).now (spot.1 t) (spot.2 t))))
