@@ -3,7 +3,7 @@
 #![tactic(auto)]
 
 use bounded_input::read_full;
-use program_listing::{INPUT_ROOM, Listing, ROW_ROOM};
+use program_listing::{INPUT_ROOM, Listing, ROW_ROOM, next_text, text_count};
 
 // Reads, then writes each text in turn, until a write fails.
 fn main(rt: HostRuntime) {
@@ -11,8 +11,8 @@ fn main(rt: HostRuntime) {
     let n = read_full(&mut rt.stdin(), &mut bytes);
     let listing = Listing::of(&bytes[..n]);
     let mut out = [0u8; ROW_ROOM];
-    for k in 0..listing.count() {
-        let end = listing.write(k, &mut out);
+    for k in 0..text_count(listing) {
+        let end = next_text(listing, k, &mut out);
         if rt.write_all(&out[..end]).is_err() {
             return;
         }

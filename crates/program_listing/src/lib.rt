@@ -43,30 +43,30 @@ impl<'a> Listing<'a> {
             checked: accepted(bytes),
         }
     }
+}
 
-    // How many there are.
-    pub fn count(self) -> u32
-        ensures { result ≡ text_count self.entry.bytes.now }
-    {
-        match self.checked {
-            Ok(sheet) => last_line(sheet, Axis::Y) + 1 - first_line(sheet, Axis::Y),
-            Err(_) => 1,
-        }
+// How many texts there are.
+pub fn text_count(listing: Listing) -> u32
+    ensures { result ≡ text_count listing.entry.bytes.now }
+{
+    match listing.checked {
+        Ok(sheet) => last_line(sheet, Axis::Y) + 1 - first_line(sheet, Axis::Y),
+        Err(_) => 1,
     }
+}
 
-    // Writes the text that comes after k of them to the start of `out`, and answers how many bytes it has: 0 at the end.
-    pub fn write(self, k: u32, out: &mut [u8]) -> usize
-        requires { row_room ≤ length out.old }
-        ensures count { result ≡ length (next_text self.entry.bytes.now k) }
-        ensures text { out.new ≡ replaced out.old 0 (next_text self.entry.bytes.now k) }
-    {
-        if self.count() <= k {
-            return 0;
-        }
-        match self.checked {
-            Ok(sheet) => row_text(sheet, first_line(sheet, Axis::Y) + k, out),
-            Err(refusal) => program_text::refused(out, refusal.number()),
-        }
+// Writes the text that comes after k of them to the start of `out`, and answers how many bytes it has: 0 at the end.
+pub fn next_text(listing: Listing, k: u32, out: &mut [u8]) -> usize
+    requires { row_room ≤ length out.old }
+    ensures count { result ≡ length (next_text listing.entry.bytes.now k) }
+    ensures text { out.new ≡ replaced out.old 0 (next_text listing.entry.bytes.now k) }
+{
+    if text_count(listing) <= k {
+        return 0;
+    }
+    match listing.checked {
+        Ok(sheet) => row_text(sheet, first_line(sheet, Axis::Y) + k, out),
+        Err(refusal) => program_text::refused(out, refusal.number()),
     }
 }
 
