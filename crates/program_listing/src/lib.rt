@@ -54,12 +54,15 @@ impl<'a> Listing<'a> {
         }
     }
 
-    // Writes the text that comes after k of them to the start of `out`, and answers how many bytes it has.
+    // Writes the text that comes after k of them to the start of `out`, and answers how many bytes it has: 0 at the end.
     pub fn write(self, k: u32, out: &mut [u8]) -> usize
-        requires { (k < text_count self.bytes.now) × (row_room ≤ length out.old) }
+        requires { row_room ≤ length out.old }
         ensures count { result ≡ length (next_text self.entry.bytes.now k) }
         ensures text { out.new ≡ replaced out.old 0 (next_text self.entry.bytes.now k) }
     {
+        if self.count() <= k {
+            return 0;
+        }
         match self.checked {
             Ok(sheet) => row_text(sheet, first_line(sheet, Axis::Y) + k, out),
             Err(refusal) => program_text::refused(out, refusal.number()),

@@ -1,8 +1,0 @@
--- `sheet_slopes::theorems::examples` meets its contract. Assumes nothing.
-use mathlib.Core.Path.{refl}
-use Rattle.sheet_slopes.proofs.Examples.{examples}
-use Rattle.sheet_slopes.proofs.theorems.examples.Statement.{statement}
-use Rattle.sheet_slopes.proofs.theorems.examples.Tie as tie
-
-pub examples_spec : {M : Type 1} → statement M
-examples_spec = tie.close (tie.spec (λ c. (refl, examples)))

@@ -1,0 +1,7 @@
+-- `surface_bends::theorems::examples` meets its contract. Assumes nothing.
+use mathlib.Core.Path.{refl}
+use Rattle.surface_bends.proofs.Examples.{examples}
+use Rattle.surface_bends.proofs.theorems.examples.Goals as goal
+
+pub returns : goal.returns
+returns c = (refl, examples)

@@ -1,8 +1,0 @@
--- `surface_bends::theorems::examples` meets its contract. Assumes nothing.
-use mathlib.Core.Path.{refl}
-use Rattle.surface_bends.proofs.Examples.{examples}
-use Rattle.surface_bends.proofs.theorems.examples.Statement.{statement}
-use Rattle.surface_bends.proofs.theorems.examples.Tie as tie
-
-pub examples_spec : {M : Type 1} → statement M
-examples_spec = tie.close (tie.spec (λ c. (refl, examples)))
