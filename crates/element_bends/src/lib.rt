@@ -1,4 +1,5 @@
-// At a pixel of a cell, the bends from each piece that holds it: three numbers for a piece, in a lent list.
+// At a pixel of a cell, the bends from each piece that holds it: three numbers for a piece, in a lent list. The list comes whole, with the place to store at:
+// there is no heap to gather it on. `AllWithin` is a clause, since 01 names the corner numbers' plain array.
 #![tactic(auto)]
 
 ghost use Rattle.std.specs.Prelude.{◌≡◌, ◌+◌, ◌≤◌, length};

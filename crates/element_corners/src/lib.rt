@@ -10,11 +10,12 @@ ghost use Rattle.element_cell.specs.Corners.{jet_of, corners, three, arrays, num
 
 use element_cell::lengths::length;
 
-// From the nodes' heights in grains and slopes in grains per pixel.
+// From the nodes' heights in grains and slopes in grains per pixel. Width and height come by themselves: a struct of the two would be taken apart at once.
 pub fn corner_numbers(nodes: [[i64; 3]; 4], width: usize, height: usize) -> [[i64; 3]; 4]
     requires { Measured (corners nodes) × Side width × Side height }
     ensures { result ≡ arrays (corner_numbers (cell width height) (corners nodes)) }
 {
+    // each by its index: what is asked of a corner stands in its own clause
     [
         scaled(nodes[0], width, height),
         scaled(nodes[1], width, height),

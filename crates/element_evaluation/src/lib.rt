@@ -1,4 +1,5 @@
 // The six readings of a piece at a pixel, from its doubled coefficients: cells 1 to 64 pixels wide and high, corner numbers within 262,080.
+// The cubic and the pixel stay two: `element_bends` reads one pixel by several cubics.
 #![tactic(auto)]
 
 pub mod derivatives;

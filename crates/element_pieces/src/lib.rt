@@ -27,7 +27,7 @@ const WEIGHTS: [[i64; 10]; 12] = [
     [0, 0, 0, 0, 0, 0, 0, 0, -2, 1], // y-slope 11
 ];
 
-// Those of a piece, from the cell's corner numbers: the set we read from.
+// Those of a piece, from the cell's corner numbers: the set we read from. `AllWithin` stays a clause, since 01 names the corner numbers' plain array.
 pub fn coefficients(n: [[i64; 3]; 4], piece: Piece) -> Coefficients
     requires { AllWithin largest (corners n) }
     ensures { result ≡ listed (sibson (corners n) (piece_of piece)) }

@@ -1,4 +1,5 @@
 // The level along a row of pixels: over 2 W³ H³ it is a cubic in the offset from the cell's left edge.
+// Width and height come by themselves: a struct of the two would be taken apart in each of these functions.
 #![tactic(auto)]
 
 pub mod theorems;

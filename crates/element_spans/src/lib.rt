@@ -28,7 +28,7 @@ struct Ends {
 }
 
 // Fills `count` slots of the row from index `at` on: with the level at a pixel of a cell, and those to its right in the same cell, span by span.
-// What the corner numbers are within is a clause here and below, no type's invariant: 01 names their plain array.
+// The whole row is lent, as `fill_levels` asks. What the corner numbers are within is a clause here and below, no type's invariant: 01 names their plain array.
 pub fn fill_cell(row: &mut [i32], at: usize, count: usize, n: [[i64; 3]; 4], first: Pixel)
     requires { AllWithin largest (corners n) × FitsCell first count × (at + count ≤ length row.old) }
     ensures { row.new ≡ steps (starting_at at (λ k. cell_level (corners n) (to_right first k))) at count row.old }

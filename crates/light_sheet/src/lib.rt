@@ -82,7 +82,7 @@ pub fn pool(first: &[u8], second: &[u8], target: &mut [u8]) -> Result<(), Refusa
 }
 
 // Reads at the pixel (x, y): kind 0 is the level in steps, 1 the tilt (x, y) in steps per pixel, 2 the bend (xx, xy, yy) in steps per pixel per pixel; or
-// `Refused` with the number (1 to 6, 7, 9).
+// `Refused` with the number (1 to 6, 7, 9). The kind comes as a number, since any other is refused.
 pub fn read(sheet: &[u8], x: u32, y: u32, kind: u32) -> Answer
     ensures answer { outcome result ≡ read sheet.now x y kind }
     ensures kept { sheet.exit.now ≡ sheet.now }

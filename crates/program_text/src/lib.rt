@@ -1,4 +1,5 @@
-// Numbers in decimal and whole lines as ASCII text, written into lent memory. Each call answers the index behind what it wrote.
+// Numbers in decimal and whole lines as ASCII text, written into lent memory of a fixed size, so that there is no `String`. Each call answers the index behind
+// what it wrote.
 #![tactic(auto)]
 
 pub mod theorems;

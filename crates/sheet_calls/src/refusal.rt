@@ -29,6 +29,7 @@ impl Refusal {
     pub fn number(self) -> u32
         ensures { result ≡ number self }
     {
+        // by `as`, since the numbers stand at the cases: a `From` would only repeat it
         self as u32
     }
 }

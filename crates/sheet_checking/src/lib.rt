@@ -49,7 +49,7 @@ pub fn accepted(sheet: &[u8]) -> Result<Sheet<'_>, Refusal>
     Ok(Sheet { bytes: sheet })
 }
 
-// What the call `check` answers. Other calls ask `sheet_refusal`.
+// What the call `check` answers, which 01 gives rules of its own. Other calls ask `sheet_refusal`.
 pub fn check(sheet: &[u8]) -> Result<(), Refusal>
     ensures { refusal_number result ≡ check_refusal sheet.now }
 {

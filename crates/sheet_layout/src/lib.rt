@@ -1,4 +1,5 @@
-// The bytes of a sheet: where its parts lie, what they hold, and a node's bytes read and written.
+// The bytes of a sheet: where its parts lie, what they hold, and a node's bytes read and written. Parts lie at offsets, as in 01's format. How long the bytes
+// are, and that a node is one of theirs, is a clause of each call and no type's fact: a check learns it step by step, and a sheet is written as plain bytes.
 #![tactic(auto)]
 
 pub mod axis;

@@ -48,7 +48,7 @@ pub fn set_node(sheet: &mut [u8], column: u32, row: u32, numbers: Node) -> Resul
     Ok(())
 }
 
-// The bytes of a node that the sheet has.
+// The bytes of a node that the sheet has. Not of a `Sheet`: that the node is there is a part of what the lookup asks.
 fn found(sheet: &[u8], column: u32, row: u32) -> &[u8]
     requires { lookup_refusal sheet.now column row ≡ 0 }
     ensures { Part sheet.entry result (stretch (node_offset sheet.now column row) node_size) }

@@ -1,4 +1,5 @@
 // The slope along an axis that heights give at a node, before and after rounding. The node is that at line `k` of the axis, on line `across` of the other one.
+// Node and stiffness are arguments of each call: a type of them would be made anew for every node.
 ghost use Rattle.std.specs.Prelude.{◌≡◌, ◌*◌, ◌^◌, ◌≤◌, ◌<◌, pos, nat_abs, ◌*ℤ◌, length};
 ghost use Rattle.integers.specs.Within.{◌within◌};
 ghost use Rattle.integers.specs.Ratio.{Denominates};

@@ -15,7 +15,7 @@ use sheet_layout::ranges::word_in_range;
 use sheet_layout::{node_count, nodes_offset};
 use sheet_words::{put_word, word};
 
-// Whether some sum is out of range.
+// Whether some sum is out of range. Both public calls take the sheets as they are lent; `Addends` holds what they share.
 pub fn some_sum_out(first: &[u8], second: &[u8]) -> bool
     requires { OnSameLines first.now second.now }
     ensures { result ≡ some_sum_out first.now second.now }

@@ -1,4 +1,5 @@
-// Numbers of 16 bits in bytes, the low byte first: read, written, and signed ones brought to 16 bits.
+// Numbers of 16 bits in bytes, the low byte first: read, written, and signed ones brought to 16 bits. One is held as u32, as the pixels and lines are that it
+// is compared with: of u16 every caller would convert it. Reading is two functions: a trait with the two `from_le_bytes` would be longer than they are.
 #![tactic(auto)]
 
 pub mod theorems;

@@ -35,7 +35,7 @@ impl Model for Zone {
     ghost inverse = { λ z. record { left = z.left; top = z.top; right = z.right; bottom = z.bottom; floor = z.floor; ceiling = z.ceiling } };
 }
 
-// Zone k of the list.
+// Zone k of the list, by its number, as the laws have it.
 #[tactic(auto, unfolding(sheet_zones::specs::Zones::zone_in))]
 pub fn zone_at(zones: &[u8], k: usize) -> Zone
     requires { HasZone zones.now k }
@@ -80,7 +80,7 @@ impl Zone {
         (self.top <= y) & (y <= self.bottom)
     }
 
-    // What it does to a level: raised to the floor if below, then lowered to the ceiling if above.
+    // What it does to a level: raised to the floor if below, then lowered to the ceiling if above. Not by `clamp`, which a zone with crossed limits may not ask.
     pub fn limited_by(self, level: i32) -> i32
         ensures { result ≡ limited_by self level }
     {

@@ -7,7 +7,7 @@ pub mod theorems;
 ghost use Rattle.std.specs.Prelude.{◌≡◌, [], ◌∷◌};
 ghost use Rattle.surface_answers.specs.Answers.{outcome, answered, FitsFloat};
 
-// One of three readings, in steps, in steps per pixel and in steps per pixel per pixel, or the number of a refusal.
+// One of three readings, in steps, in steps per pixel and in steps per pixel per pixel, or the number of a refusal. 01 names this enum, so it is no Result.
 #[derive(Clone, Copy)]
 pub enum Answer {
     Level(f64),
@@ -16,6 +16,7 @@ pub enum Answer {
     Refused(u32),
 }
 
+// Three types, each with its constructor and its divisor, as 01 names them. That a number fits a float is asked by `answer`: the constructors take any.
 // A level, in grains.
 #[derive(Clone, Copy)]
 pub struct LevelReading {

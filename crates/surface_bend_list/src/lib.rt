@@ -31,7 +31,8 @@ pub fn bends(sheet: &[u8], x: u32, y: u32, list: &mut [i64]) -> Result<u32, Refu
     Ok((numbers / 3) as u32)
 }
 
-// Stores the bends from all cells that touch the pixel, row by row, and answers how many numbers they are.
+// Stores the bends from all cells that touch the pixel, row by row, and answers how many numbers they are. The list comes whole, with the place to store at:
+// there is no heap to gather it on.
 fn list_rows(spot: Spot, list: &mut [i64]) -> usize
     requires { 24 ≤ length list.old }
     ensures answer { result ≡ length (bends spot.entry.sheet.bytes.now spot.entry.x spot.entry.y) }

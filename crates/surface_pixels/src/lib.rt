@@ -25,7 +25,7 @@ struct LocatedCubic {
     pixel: Pixel,
 }
 
-// What the light board asks: kind 0 is the level, 1 the tilt, 2 the bend.
+// What the light board asks: kind 0 is the level, 1 the tilt, 2 the bend. It comes as a number, since any other is refused.
 pub fn read(sheet: &[u8], x: u32, y: u32, kind: u32) -> Answer
     ensures { outcome result ≡ read sheet.now x y kind }
 {
@@ -99,6 +99,7 @@ impl LocatedCubic {
         }
     }
 
+    // What fits a float is known of the sheet, not of the cubic, so each answer asks it.
     fn level_answer(self) -> Answer
         requires { FitsFloat (on level_of self) }
         ensures { outcome result ≡ answered 0 (on level_of self ∷ []) }

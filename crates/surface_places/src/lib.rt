@@ -95,7 +95,7 @@ impl<'a> Lines<'a> {
         }
     }
 
-    // A pixel in a cell that touches it.
+    // A pixel in a cell that touches it. That it does is a clause: a type of it would hold lines, cell and pixel for this one call.
     pub fn pixel_in(self, column: usize, row: usize, x: u32, y: u32) -> Pixel
         requires { CellTouches (line_x self.bytes.now) (columns self.bytes.now) column x × CellTouches (line_y self.bytes.now) (rows self.bytes.now) row y }
         ensures { result ≡ pixel_in self.entry.bytes.now column row x y }

@@ -26,6 +26,7 @@ pub struct Strip {
 
 // Makes the first `budget` steps of the run from (x, y): each stores one level in its slot of the row, strictly from left to right. The other slots keep
 // what they hold.
+// Bytes, a first pixel and the whole row, and no `Spot` or part of the row: `OnMesh` is of all the run's pixels, and each step of the budget is one of `RowGrows`.
 pub fn run(sheet: &[u8], x: u32, y: u32, row: &mut [i32], budget: usize)
     requires { OnMesh sheet.now x y budget × (budget ≤ length row.old) }
     ensures { row.new ≡ after_steps sheet.now x y budget row.old }
@@ -41,6 +42,7 @@ pub fn run(sheet: &[u8], x: u32, y: u32, row: &mut [i32], budget: usize)
     };
     let mut column = place.column;
     let mut done: usize = 0;
+    // Not a `for`: how many pixels a column of cells has is known only when it is filled.
     while done < budget {
         done = fill_column(sheet, strip, column, x as usize, row, done, budget);
         column += 1;
