@@ -1,5 +1,5 @@
 // A cell's twelve corner numbers: corners 00, 10, 01 and 11, of each the height and the slopes per cell width and per cell height.
-// Their bound, AllWithin, stays a clause: a struct of the twelve would take the place of this array, which is the paper's form.
+// Their bound, AllWithin, stays a clause and no type's fact, since 01 names their plain array.
 #![tactic(auto)]
 
 ghost use Rattle.std.specs.Prelude.{◌≡◌};

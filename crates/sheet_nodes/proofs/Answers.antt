@@ -1,9 +1,7 @@
 -- What a refusal, a lookup and a setting come to, from the answers that the code has. Assumes nothing.
-use Rattle.std.proofs.Common.{◌≡◌, ℕ, ℤ, List, Bool, true, false, cond, Result, Ok, Err, is_err, true≢false, refl, sym, ◌∙◌, ap, arith, w32, to_z, of_z}
-use mir.Val.{SFits}
+use Rattle.std.proofs.Common.{◌≡◌, ℕ, List, Bool, true, false, cond, Result, Ok, Err, is_err, true≢false, refl, sym, ◌∙◌, ap, arith}
 use Rattle.sheet_words.specs.Word.{replaced}
-use Rattle.sheet_layout.specs.Format.{Node, node, encoded, node_size, node_offset}
-use Rattle.sheet_layout.proofs.Numbers.{back}
+use Rattle.sheet_layout.specs.Format.{Node, encoded, node_size, node_offset}
 use Rattle.sheet_calls.specs.declared.refusal.Refusal.{Refusal}
 use Rattle.sheet_calls.specs.Refusals.{no_node, wrong_numbers, sheet_refusal, lookup_refusal, setting_refusal}
 use Rattle.sheet_calls.specs.Refused.{number, refusal_number}
@@ -57,8 +55,3 @@ module _ (s : List ℕ) (i j : ℕ) (v : Node) where
 
     pub set_done : w ≡ false → {at : ℕ} {t : List ℕ} → at ≡ node_offset s i j → t ≡ replaced s at (encoded v) → Sets 0 t
     set_done h a k = let n = numbers_answer h in (n, k ∙ rw a (sym (set_is s i j v (sym n))))
-
--- a caller's numbers as the machine hands them on: what is set is the caller's
-pub handed_on : (s : List ℕ) (i j : ℕ) {h x y : ℤ} → SFits w32 h → SFits w32 x → SFits w32 y → {n : ℕ} {t : List ℕ}
-    → Sets s i j (node (to_z w32 (of_z w32 h)) (to_z w32 (of_z w32 x)) (to_z w32 (of_z w32 y))) n t → Sets s i j (node h x y) n t
-handed_on s i j f g k e = let v = back f g k in (e.0 ∙ ap (setting_refusal s i j) v, e.1 ∙ ap (with_node s i j) v)

@@ -27,7 +27,7 @@ pub fn pool(first: &[u8], second: &[u8], target: &mut [u8]) -> Result<(), Refusa
     Ok(())
 }
 
-// Ok where the two sheets can be pooled into a target of this size, else the first condition that holds.
+// Ok where the two sheets can be pooled into a target of this size, of which nothing else is asked, else the first condition that holds.
 #[tactic(auto, using(crate::proofs::Answers::both_accepted), unfolding(sheet_pool::specs::Pool::other_target))]
 fn pool_refusal(first: &[u8], second: &[u8], size: usize) -> Result<(), Refusal>
     ensures { refusal_number result ≡ pool_refusal first.now second.now size }
