@@ -42,8 +42,8 @@ fn case(rt: &impl Print, input: &mut impl Read) -> io::Result<bool> {
     let mut sheet = [0u8; 26000];
     let mut copy = [0u8; 26000];
     let case = Case {
-        name: input::part(input, name_size, &mut name),
-        sheet: input::part(input, sheet_size, &mut sheet),
+        name: input::part(input, u32::from(name_size), &mut name),
+        sheet: input::part(input, u32::from(sheet_size), &mut sheet),
     };
     for _ in 0..calls {
         make_call(rt, input, case, &mut copy)?;
