@@ -1,2 +1,3 @@
+mod Copied
 mod Joined
 mod Answers

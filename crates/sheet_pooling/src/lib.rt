@@ -76,6 +76,8 @@ fn copy_lines(first: &[u8], target: &mut [u8])
     requires { (header_size ≤ length first.now) × (nodes_offset first.now ≤ length first.now) × (nodes_offset first.now ≤ length target.old) }
     ensures { target.new ≡ replaced target.old 0 (take (nodes_offset first.now) first.now) }
 {
-    let count = nodes_offset(first);
-    target[..count].copy_from_slice(&first[..count]);
+    // Not by `copy_from_slice`: the archive would need `memmove`, and it needs no name of the C library.
+    for k in 0..nodes_offset(first) {
+        target[k] = first[k];
+    }
 }
