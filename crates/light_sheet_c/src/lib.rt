@@ -135,7 +135,7 @@ pub fn lvs_zoned_level(sheet: &[u8], zones: &[u8], x: u32, y: u32, level: &mut i
             *level = grains;
             0
         }
-        Err(refusal) => refusal.number(),
+        Err(refused) => refused.number(),
     }
 }
 

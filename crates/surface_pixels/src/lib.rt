@@ -80,7 +80,8 @@ fn answer(spot: Spot, kind: Kind) -> Answer
 }
 
 impl LocatedCubic {
-    // The cubic on the pixel's cell and piece.
+    // The cubic on the pixel's cell and piece. In line for the same reason as `Spot::place`.
+    #[inline(always)]
     fn of(spot: Spot) -> LocatedCubic
         ensures { result ≡ located spot.entry.sheet.bytes.now (place spot.entry.sheet.bytes.now spot.entry.x spot.entry.y) }
     {

@@ -15,7 +15,9 @@ pub fn part<'a>(input: &mut impl Read, size: u32, buffer: &'a mut [u8]) -> &'a [
 }
 
 // Copies a sheet, or as much of it as the buffer holds, to the start of the buffer.
-pub fn copy<'a>(sheet: &[u8], buffer: &'a mut [u8]) -> &'a mut [u8] {
+pub fn copy<'a>(sheet: &[u8], buffer: &'a mut [u8]) -> &'a mut [u8]
+    ensures { length result.now ≤ length buffer.old }
+{
     let count = sheet.len().min(buffer.len());
     let part = &mut buffer[..count];
     part.copy_from_slice(&sheet[..count]);
